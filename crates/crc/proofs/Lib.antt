@@ -1,0 +1,6 @@
+pub mod Joined
+pub mod Linear
+pub mod Noticed
+pub mod Sharp
+pub mod Division
+pub mod Unique

@@ -1,0 +1,16 @@
+-- `crc::guard` meets its contract.
+-- Assumes nothing.
+use borrow.Author.Needs.{needs}
+use Rattle.crc.specs.Guard.{guard}
+use Rattle.crc.proofs.guard.Statement.{statement}
+use Rattle.crc.proofs.guard.Tie as tie
+
+run-requires : tie.Need-run-requires
+run-requires c κs = search needs
+
+returns : tie.Need-returns
+unfolding guard
+returns c = c .run .ensures
+
+pub guard-spec : {M : Type 1} → statement M
+guard-spec = tie.close (tie.spec run-requires returns)

@@ -1,0 +1,3 @@
+pub mod Crc
+pub mod Polynomial
+pub mod Guard
