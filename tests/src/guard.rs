@@ -1,0 +1,75 @@
+//! The guard by long division: the bytes, highest bit first, then sixteen zero bits, divided by the generator.
+
+use crate::library;
+use crate::random::Random;
+
+/// x^16 and the terms of 8BB7h.
+const GENERATOR: u32 = 0x1_8BB7;
+const LONGEST: usize = 4_200;
+const BLOCK: usize = 512;
+const SHORT: usize = 64;
+const RANDOM: usize = 80_000;
+
+pub fn guard(bytes: &[u8]) -> u16 {
+    let mut rest: u32 = 0;
+    for byte in bytes.iter().chain(&[0, 0]) {
+        for place in (0..8).rev() {
+            rest = rest << 1 | u32::from(byte >> place & 1);
+            if rest >> 16 == 1 {
+                rest ^= GENERATOR;
+            }
+        }
+    }
+    rest as u16
+}
+
+/// One input: counted, or the difference.
+fn same(what: &str, bytes: &[u8], count: &mut u64) -> Result<(), String> {
+    let (model, library) = (guard(bytes), library::guard(bytes));
+    if model != library {
+        return Err(format!(
+            "{what}, {} bytes: the model has {model:04X}, the library {library:04X}",
+            bytes.len()
+        ));
+    }
+    *count += 1;
+    Ok(())
+}
+
+/// Each run of `length` bytes that has a single bit.
+fn single_bits(length: usize, count: &mut u64) -> Result<(), String> {
+    let mut bytes = vec![0; length];
+    for bit in 0..8 * length {
+        bytes[bit / 8] = 0x80 >> (bit % 8);
+        same(&format!("only bit {bit} set"), &bytes, count)?;
+        bytes[bit / 8] = 0;
+    }
+    Ok(())
+}
+
+pub fn compare(random: &mut Random) -> Result<String, String> {
+    let zeros = [0x00; LONGEST];
+    let ones = [0xFF; LONGEST];
+    let mut bytes = [0; LONGEST];
+    let (mut each, mut single, mut mixed) = (0, 0, 0);
+    for length in 0..=LONGEST {
+        same("all 00", &zeros[..length], &mut each)?;
+        same("all FF", &ones[..length], &mut each)?;
+        random.fill(&mut bytes[..length]);
+        same("random", &bytes[..length], &mut each)?;
+    }
+    for length in 0..=SHORT {
+        single_bits(length, &mut single)?;
+    }
+    single_bits(BLOCK, &mut single)?;
+    for _ in 0..RANDOM {
+        let length = random.below(LONGEST + 1);
+        random.fill(&mut bytes[..length]);
+        same("random", &bytes[..length], &mut mixed)?;
+    }
+    Ok(format!(
+        "{} inputs alike: {each} at every length from 0 to {LONGEST} (all 00, all FF, random), \
+         {single} with a single bit, {mixed} random",
+        each + single + mixed
+    ))
+}
