@@ -1,8 +1,8 @@
 /*
  * Irumbolai: the stripe code of a RAID-5 recorder, proved. Link with libirumbolai.a.
  *
- * Every call takes any bytes and any numbers; none keeps a pointer, allocates, or fails.
- * A buffer is a pointer and its length in bytes; where the length is 0 nothing is read.
+ * Every call takes any bytes and any numbers, and returns; none keeps a pointer or allocates memory.
+ * A buffer is a pointer, never NULL, and its length in bytes; where the length is 0 nothing is read.
  */
 #ifndef IRUMBOLAI_H
 #define IRUMBOLAI_H
