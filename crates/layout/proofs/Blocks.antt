@@ -1,0 +1,51 @@
+-- Block numbers and pairs of a stripe and a data index: division by d and its way back, and the bounds. Assumes nothing.
+use mathlib.Core.Path.{_≡_}
+use Prim.Native.Nat.{ℕ, _^_, _≤_, _<_}
+use native.Mathlib.Nat.{mod-lt, mod-eq-of-lt, div-add-mod', div-lt-iff-lt-mul, mul-add-div-right, mul-add-mod-self-right, div-eq-of-lt, mul-le-mul-right, mul-le-mul, eq-of-mul-eq-mul-right, add-zero}
+use native.Mathlib.Omega.{arith}
+use Rattle.layout.specs.Arrays.{dataMembers, blockCount}
+use Rattle.layout.specs.Places.{lowestBlock, blockAt, stripeOf, indexOf}
+use Rattle.layout.specs.declared.Array.{Array}
+use Rattle.layout.proofs.Ranges.{Sound, SoundStripe, SoundBlock}
+
+module _ (a : Array) where
+  pub stripe-of-block : (stripe index : ℕ) → index < dataMembers a → stripeOf a (blockAt a stripe index) ≡ stripe
+  unfolding stripeOf blockAt lowestBlock
+  stripe-of-block stripe index h =
+      let d : 0 < dataMembers a = omega arith in
+      rw (mul-add-div-right d stripe index, div-eq-of-lt h, add-zero)
+
+  pub index-of-block : (stripe index : ℕ) → index < dataMembers a → indexOf a (blockAt a stripe index) ≡ index
+  unfolding indexOf blockAt lowestBlock
+  index-of-block stripe index h = rw (mul-add-mod-self-right stripe (dataMembers a) index, mod-eq-of-lt h)
+
+  pub block-of-parts : (block : ℕ) → blockAt a (stripeOf a block) (indexOf a block) ≡ block
+  unfolding stripeOf indexOf blockAt lowestBlock
+  block-of-parts block = div-add-mod' block (dataMembers a)
+
+  pub index-in-stripe : (block : ℕ) → Sound a → indexOf a block < dataMembers a
+  unfolding indexOf
+  index-in-stripe block h = mod-lt block (omega arith)
+
+  pub stripe-in-array : (block : ℕ) → SoundBlock a block → stripeOf a block < a .stripes
+  unfolding stripeOf
+  stripe-in-array block h = let d : 0 < dataMembers a = omega arith in div-lt-iff-lt-mul d .1 (h .here)
+
+  pub block-in-array : (stripe index : ℕ) → stripe < a .stripes → index < dataMembers a → blockAt a stripe index < blockCount a
+  unfolding blockAt lowestBlock
+  block-in-array stripe index s i = omega (arith, mul-le-mul-right (dataMembers a) s)
+
+  pub lowest-sound : (stripe : ℕ) → SoundStripe a stripe → SoundBlock a (lowestBlock a stripe)
+  unfolding lowestBlock
+  lowest-sound stripe h = record { array = h .array; here = omega (arith, mul-le-mul-right (dataMembers a) (h .here)) }
+
+  pub stripe-by-lowest : (stripe next : ℕ) → Sound a → lowestBlock a stripe ≡ lowestBlock a next → stripe ≡ next
+  unfolding lowestBlock
+  stripe-by-lowest stripe next h e = eq-of-mul-eq-mul-right (dataMembers a) (omega arith) stripe next e
+
+  pub block-count-small : Sound a → blockCount a ≤ 4026531840
+  block-count-small h = let d : dataMembers a ≤ 15 = omega arith in mul-le-mul (h .most) d
+
+  -- every block number fits a reference tag
+  pub block-small : (block : ℕ) → SoundBlock a block → block < 2 ^ 32
+  block-small block h = omega (arith, block-count-small (h .array))

@@ -1,0 +1,147 @@
+-- From refusal numbers to ranges and back: 0 is answered exactly where every number handed in lies in its range,
+-- and each other number exactly where its own test is the first that fails. Assumes nothing.
+use mathlib.Core.Path.{_≡_, refl}
+use mathlib.Core.Bool.{Bool, true, false, not, _&&_}
+use mathlib.Core.Logic.{_↔_}
+use Prim.Native.Nat.{ℕ, _≤_, _<_}
+use native.Mathlib.Omega.{arith}
+use borrow.Author.Tests.{leb-true, le-leb}
+use lib.Dec.{leb}
+use Rattle.layout.specs.Answers.{refuse, orPast}
+use Rattle.layout.specs.Arrays.{within, membersFit, stripesFit, arrayRefusal, blockCount, stripeRefusal, blockRefusal}
+use Rattle.layout.specs.Places.{ownerRefusal}
+use Rattle.layout.specs.declared.Array.{Array}
+use Rattle.layout.proofs.Answers.{refuse-none, or-past-none, none-or-past, or-past-number, number-or-past, or-past-most}
+
+-- the array's own numbers are in range
+pub record Sound (a : Array) : Type 0 where
+  pub few : 3 ≤ a .members
+  pub many : a .members ≤ 16
+  pub some : 1 ≤ a .stripes
+  pub most : a .stripes ≤ 268435456
+
+-- and a stripe, a block, a place of it are
+pub record SoundStripe (a : Array) (stripe : ℕ) : Type 0 where
+  pub array : Sound a
+  pub here : stripe < a .stripes
+
+pub record SoundBlock (a : Array) (block : ℕ) : Type 0 where
+  pub array : Sound a
+  pub here : block < blockCount a
+
+pub record SoundPlace (a : Array) (s m : ℕ) : Type 0 where
+  pub stripe : SoundStripe a s
+  pub here : m < a .members
+
+both : (s t : Bool) → (s && t) ≡ true → (s ≡ true) × (t ≡ true)
+both true t e = (refl, e)
+both false t e = (e, (cc))
+
+pub within-range : (low high x : ℕ) → within low high x ≡ true → (low ≤ x) × (x ≤ high)
+within-range low high x e =
+    let h = both (leb low x) (leb x high) e in
+    (leb-true low x (h .0), leb-true x high (h .1))
+
+pub range-within : (low high x : ℕ) → low ≤ x → x ≤ high → within low high x ≡ true
+range-within low high x l h = rw (le-leb low x l, le-leb x high h)
+
+-- ---- nothing is refused
+
+pub array-sound : (a : Array) → arrayRefusal a ≡ 0 → Sound a
+unfolding arrayRefusal
+array-sound a e =
+    let h = refuse-none (membersFit a) 0 (refuse (not (stripesFit a)) 2 0) e in
+    let m = within-range 3 16 (a .members) (h .0) in
+    let s = within-range 1 268435456 (a .stripes) (refuse-none (stripesFit a) 1 0 (h .1) .0) in
+    record { few = m .0; many = m .1; some = s .0; most = s .1 }
+
+pub sound-array : (a : Array) → Sound a → arrayRefusal a ≡ 0
+unfolding arrayRefusal
+sound-array a h =
+    rw (range-within 3 16 (a .members) (h .few) (h .many), range-within 1 268435456 (a .stripes) (h .some) (h .most))
+
+pub stripe-sound : (a : Array) (stripe : ℕ) → stripeRefusal a stripe ≡ 0 → SoundStripe a stripe
+unfolding stripeRefusal
+stripe-sound a stripe e =
+    let h = or-past-none (arrayRefusal a) stripe (a .stripes) 2 e in
+    record { array = array-sound a (h .0); here = h .1 }
+
+pub sound-stripe : (a : Array) (stripe : ℕ) → SoundStripe a stripe → stripeRefusal a stripe ≡ 0
+unfolding stripeRefusal
+sound-stripe a stripe h = none-or-past (arrayRefusal a) stripe (a .stripes) 3 (sound-array a (h .array)) (h .here)
+
+pub block-sound : (a : Array) (block : ℕ) → blockRefusal a block ≡ 0 → SoundBlock a block
+unfolding blockRefusal
+block-sound a block e =
+    let h = or-past-none (arrayRefusal a) block (blockCount a) 2 e in
+    record { array = array-sound a (h .0); here = h .1 }
+
+pub sound-block : (a : Array) (block : ℕ) → SoundBlock a block → blockRefusal a block ≡ 0
+unfolding blockRefusal
+sound-block a block h = none-or-past (arrayRefusal a) block (blockCount a) 3 (sound-array a (h .array)) (h .here)
+
+pub place-sound : (a : Array) (stripe member : ℕ) → ownerRefusal a stripe member ≡ 0 → SoundPlace a stripe member
+unfolding ownerRefusal
+place-sound a stripe member e =
+    let h = or-past-none (stripeRefusal a stripe) member (a .members) 4 e in
+    record { stripe = stripe-sound a stripe (h .0); here = h .1 }
+
+pub sound-place : (a : Array) (stripe member : ℕ) → SoundPlace a stripe member → ownerRefusal a stripe member ≡ 0
+unfolding ownerRefusal
+sound-place a stripe member h = none-or-past (stripeRefusal a stripe) member (a .members) 5 (sound-stripe a stripe (h .stripe)) (h .here)
+
+-- ---- something is: each number exactly where its test fails and no earlier one does
+
+pub members-refused : (a : Array) → (arrayRefusal a ≡ 1) ↔ (membersFit a ≡ false)
+unfolding arrayRefusal
+members-refused a = by-tests (membersFit a) (stripesFit a)
+  where
+    by-tests : (m s : Bool) → (refuse (not m) 1 (refuse (not s) 2 0) ≡ 1) ↔ (m ≡ false)
+    by-tests true true = (λ e. absurd (omega arith), λ e. (cc))
+    by-tests true false = (λ e. absurd (omega arith), λ e. (cc))
+    by-tests false s = (λ e. refl, λ e. refl)
+
+pub stripes-refused : (a : Array) → (arrayRefusal a ≡ 2) ↔ ((membersFit a ≡ true) × (stripesFit a ≡ false))
+unfolding arrayRefusal
+stripes-refused a = by-tests (membersFit a) (stripesFit a)
+  where
+    by-tests : (m s : Bool) → (refuse (not m) 1 (refuse (not s) 2 0) ≡ 2) ↔ ((m ≡ true) × (s ≡ false))
+    by-tests true true = (λ e. absurd (omega arith), λ e. (cc))
+    by-tests true false = (λ e. (refl, refl), λ e. refl)
+    by-tests false s = (λ e. absurd (omega arith), λ e. (cc))
+
+pub array-number : (a : Array) → arrayRefusal a ≤ 2
+unfolding arrayRefusal
+array-number a = by-tests (membersFit a) (stripesFit a)
+  where
+    by-tests : (m s : Bool) → refuse (not m) 1 (refuse (not s) 2 0) ≤ 2
+    by-tests true true = omega arith
+    by-tests true false = omega arith
+    by-tests false s = omega arith
+
+past-refused : (a : Array) (x end : ℕ) → (orPast (arrayRefusal a) x end 3 ≡ 3) ↔ (Sound a × (end ≤ x))
+past-refused a x end = (
+  λ e. let h = or-past-number (arrayRefusal a) x end 2 (omega (arith, array-number a)) e in (array-sound a (h .0), h .1),
+  λ h. number-or-past (arrayRefusal a) x end 3 (sound-array a (h .0)) (h .1),
+)
+
+pub stripe-refused : (a : Array) (stripe : ℕ) → (stripeRefusal a stripe ≡ 3) ↔ (Sound a × (a .stripes ≤ stripe))
+unfolding stripeRefusal
+stripe-refused a stripe = past-refused a stripe (a .stripes)
+
+pub block-refused : (a : Array) (block : ℕ) → (blockRefusal a block ≡ 3) ↔ (Sound a × (blockCount a ≤ block))
+unfolding blockRefusal
+block-refused a block = past-refused a block (blockCount a)
+
+pub stripe-number : (a : Array) (stripe : ℕ) → stripeRefusal a stripe ≤ 3
+unfolding stripeRefusal
+stripe-number a stripe = or-past-most (arrayRefusal a) stripe (a .stripes) 3 (omega (arith, array-number a))
+
+pub member-refused : (a : Array) (stripe member : ℕ) → (ownerRefusal a stripe member ≡ 5) ↔ (SoundStripe a stripe × (a .members ≤ member))
+unfolding ownerRefusal
+member-refused a stripe member = (
+  λ e.
+      let h = or-past-number (stripeRefusal a stripe) member (a .members) 4 (omega (arith, stripe-number a stripe)) e in
+      (stripe-sound a stripe (h .0), h .1),
+  λ h. number-or-past (stripeRefusal a stripe) member (a .members) 5 (sound-stripe a stripe (h .0)) (h .1),
+)

@@ -1,0 +1,36 @@
+-- The numbers of an array: its members n, its stripes S, its volume; and which of them are refused.
+-- Assumes nothing.
+use Prim.Native.Nat.{ℕ, _-_, _*_}
+use mathlib.Core.Bool.{Bool, not, _&&_}
+use lib.Dec.{leb}
+use Rattle.layout.specs.Answers.{refuse, orPast}
+use Rattle.layout.specs.declared.Array.{Array}
+
+-- x lies between low and high, both included
+abbrev pub within : ℕ → ℕ → ℕ → Bool
+within low high x = leb low x && leb x high
+
+abbrev pub membersFit : Array → Bool
+membersFit a = within 3 16 (a .members)
+
+abbrev pub stripesFit : Array → Bool
+stripesFit a = within 1 268435456 (a .stripes)
+
+-- the refusal number of the array's own numbers
+unfoldable pub arrayRefusal : Array → ℕ
+arrayRefusal a = refuse (not (membersFit a)) 1 (refuse (not (stripesFit a)) 2 0)
+
+-- how many members of a stripe hold data: d
+abbrev pub dataMembers : Array → ℕ
+dataMembers a = a .members - 1
+
+-- how many blocks the array has: S x d
+abbrev pub blockCount : Array → ℕ
+blockCount a = a .stripes * dataMembers a
+
+-- refusals 1, 2 and 3 where a stripe is handed in, and where a block number is
+unfoldable pub stripeRefusal : Array → ℕ → ℕ
+stripeRefusal a stripe = orPast (arrayRefusal a) stripe (a .stripes) 3
+
+unfoldable pub blockRefusal : Array → ℕ → ℕ
+blockRefusal a block = orPast (arrayRefusal a) block (blockCount a) 3

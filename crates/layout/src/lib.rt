@@ -1,0 +1,169 @@
+// Where the blocks of an array lie: from a block number to its stripe and member, and back.
+// A call decides first: its refusal number, 0 where nothing is refused; only then does it compute.
+ghost use mathlib.Core.Path.{_≡_};
+ghost use mathlib.Core.Logic.{_≢_};
+ghost use Prim.Native.Nat.{_<_, _≤_};
+ghost use Rattle.layout.specs.Answers.{orPast};
+ghost use Rattle.layout.specs.Arrays.{within, arrayRefusal, dataMembers, stripeRefusal, blockRefusal};
+ghost use Rattle.layout.specs.Places.{parityMember, memberAt, indexAt, placedNumbers, placeNumbers, ownedNumbers, ownerNumbers, ownerRefusal};
+
+// The array's numbers: members n, stripes S, and the volume that stands in every application tag.
+pub struct Array {
+    pub members: usize,
+    pub stripes: u64,
+    pub volume: u8,
+}
+
+// Where a block lies.
+pub enum Placed {
+    Refused(u8),
+    At { stripe: u64, member: usize },
+}
+
+// What lies at a place: a block, or the parity of its stripe, which is named by the stripe's lowest block.
+pub enum Owned {
+    Refused(u8),
+    Parity { lowest: u64 },
+    Data { block: u64 },
+}
+
+const FEWEST_MEMBERS: u64 = 3;
+
+const MOST_MEMBERS: u64 = 16;
+
+const MOST_STRIPES: u64 = 268435456;
+
+// x lies between low and high, both included.
+fn is_within(low: u64, high: u64, x: u64) -> bool
+    ensures { λ r. ⌜ r ≡ within low high x ⌝ }
+{
+    low <= x && x <= high
+}
+
+// The refusal number of the array's own numbers: 1, 2, or 0.
+pub fn array_refusal(array: Array) -> u8
+    ensures { λ r. ⌜ r ≡ arrayRefusal array ⌝ }
+{
+    if !is_within(FEWEST_MEMBERS, MOST_MEMBERS, array.members as u64) {
+        return 1;
+    }
+    if !is_within(1, MOST_STRIPES, array.stripes) {
+        return 2;
+    }
+    0
+}
+
+// The number of an earlier refusal where there is one, else `number` where x is at or past the end.
+fn or_past(earlier: u8, x: u64, end: u64, number: u8) -> u8
+    ensures { λ r. ⌜ r ≡ orPast earlier x end number ⌝ }
+{
+    if earlier != 0 {
+        return earlier;
+    }
+    if x < end { 0 } else { number }
+}
+
+// The refusal number where a stripe is handed in.
+pub fn stripe_refusal(array: Array, stripe: u64) -> u8
+    ensures { λ r. ⌜ r ≡ stripeRefusal array stripe ⌝ }
+{
+    or_past(array_refusal(array), stripe, array.stripes, 3)
+}
+
+// How many members of a stripe hold data: d.
+fn data_members(array: Array) -> u64
+    requires { ⌜ 1 ≤ array .members ⌝ }
+    ensures { λ r. ⌜ r ≡ dataMembers array ⌝ }
+{
+    array.members as u64 - 1
+}
+
+// The refusal number where a block number is handed in.
+pub fn block_refusal(array: Array, block: u64) -> u8
+    ensures { λ r. ⌜ r ≡ blockRefusal array block ⌝ }
+{
+    let refusal = array_refusal(array);
+    if refusal != 0 {
+        return refusal;
+    }
+    or_past(0, block, array.stripes * data_members(array), 3)
+}
+
+// The refusal number where a place is handed in: a stripe and a member.
+pub fn owner_refusal(array: Array, stripe: u64, member: usize) -> u8
+    ensures { λ r. ⌜ r ≡ ownerRefusal array stripe member ⌝ }
+{
+    or_past(
+        stripe_refusal(array, stripe),
+        member as u64,
+        array.members as u64,
+        5,
+    )
+}
+
+// The member that holds the parity of a stripe. With no members at all, the remainder by 0 is the stripe itself.
+pub fn parity_member(array: Array, stripe: u64) -> usize
+    ensures { λ r. ⌜ r ≡ parityMember array stripe ⌝ }
+{
+    let members = array.members as u64;
+    if members == 0 {
+        return stripe as usize;
+    }
+    (stripe % members) as usize
+}
+
+// The member at a data index: the indices step over the parity member.
+fn member_at(array: Array, stripe: u64, index: usize) -> usize
+    requires { ⌜ index < array .members ⌝ }
+    ensures { λ r. ⌜ r ≡ memberAt array stripe index ⌝ }
+{
+    if index < parity_member(array, stripe) {
+        index
+    } else {
+        index + 1
+    }
+}
+
+// The data index at a member that is not the parity's.
+fn index_at(array: Array, stripe: u64, member: usize) -> usize
+    requires { ⌜ member ≢ parityMember array stripe ⌝ }
+    ensures { λ r. ⌜ r ≡ indexAt array stripe member ⌝ }
+{
+    if member < parity_member(array, stripe) {
+        member
+    } else {
+        member - 1
+    }
+}
+
+// The place of a block.
+pub fn place(array: Array, block: u64) -> Placed
+    ensures { λ r. ⌜ placedNumbers r ≡ placeNumbers array block ⌝ }
+{
+    let refusal = block_refusal(array, block);
+    if refusal != 0 {
+        return Placed::Refused(refusal);
+    }
+    let data = data_members(array);
+    let stripe = block / data;
+    let index = (block % data) as usize;
+    let member = member_at(array, stripe, index);
+    Placed::At { stripe, member }
+}
+
+// What lies at a place.
+pub fn owner(array: Array, stripe: u64, member: usize) -> Owned
+    ensures { λ r. ⌜ ownedNumbers r ≡ ownerNumbers array stripe member ⌝ }
+{
+    let refusal = owner_refusal(array, stripe, member);
+    if refusal != 0 {
+        return Owned::Refused(refusal);
+    }
+    let lowest = stripe * data_members(array);
+    if member == parity_member(array, stripe) {
+        return Owned::Parity { lowest };
+    }
+    let index = index_at(array, stripe, member);
+    let block = lowest + index as u64;
+    Owned::Data { block }
+}
