@@ -72,7 +72,7 @@ pub run-linear : (r s : ℕ) (a b : List ℕ) → length a ≡ length b → run 
 unfolding run
 run-linear r s a b h = feed-bytes-linear 16 generator r s a b h
 
--- the guard of an exclusive-or of equally long runs is the exclusive-or of their guards
+-- two equally long runs: adding them first or adding their guards comes to one
 pub guard-linear : (a b : List ℕ) → length a ≡ length b → guard (xors a b) ≡ bitXor (guard a) (guard b)
 unfolding guard
 guard-linear a b h = run-linear 0 0 a b h
