@@ -1,8 +1,7 @@
 // Where the blocks of an array lie: from a block number to its stripe and member, and back.
 // A call decides first: its refusal number, 0 where nothing is refused; only then does it compute.
 ghost use mathlib.Core.Path.{_≡_};
-ghost use mathlib.Core.Logic.{_≢_};
-ghost use Prim.Native.Nat.{_<_, _≤_};
+ghost use Prim.Native.Nat.{_-_, _<_, _≤_};
 ghost use Rattle.layout.specs.Answers.{orPast};
 ghost use Rattle.layout.specs.Arrays.{within, arrayRefusal, dataMembers, stripeRefusal, blockRefusal};
 ghost use Rattle.layout.specs.Places.{parityMember, memberAt, indexAt, placedNumbers, placeNumbers, ownedNumbers, ownerNumbers, ownerRefusal};
@@ -124,15 +123,21 @@ fn member_at(array: Array, stripe: u64, index: usize) -> usize
     }
 }
 
+// One less; 0 stays 0.
+fn one_less(x: usize) -> usize
+    ensures { λ r. ⌜ r ≡ x - 1 ⌝ }
+{
+    if x == 0 { 0 } else { x - 1 }
+}
+
 // The data index at a member that is not the parity's.
-fn index_at(array: Array, stripe: u64, member: usize) -> usize
-    requires { ⌜ member ≢ parityMember array stripe ⌝ }
+pub fn index_at(array: Array, stripe: u64, member: usize) -> usize
     ensures { λ r. ⌜ r ≡ indexAt array stripe member ⌝ }
 {
     if member < parity_member(array, stripe) {
         member
     } else {
-        member - 1
+        one_less(member)
     }
 }
 

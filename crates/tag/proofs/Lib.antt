@@ -1,0 +1,9 @@
+pub mod Numbers
+pub mod Tags
+pub mod Expected
+pub mod Fits
+pub mod Checks
+pub mod Tagged
+pub mod Noticing
+pub mod OnePlace
+pub mod Injective

@@ -1,0 +1,79 @@
+-- The tag of a block: guard, application tag and reference tag, in this order; which are due at a place, and the check of a block.
+-- Assumes nothing.
+use Prim.Native.Nat.{ℕ, _+_}
+use mathlib.Core.Bool.{Bool, not, cond, _&&_}
+use mathlib.Core.List.{List, [], _∷_, _++_}
+use lib.Dec.{eqb}
+use lib.ListN.{length, take, drop}
+use Rattle.crc.specs.Guard.{guard}
+use Rattle.layout.specs.Answers.{refuse, after, answer}
+use Rattle.layout.specs.Places.{lowestBlock, blockAt, indexAt, isParity, referenceOf, ownerRefusal}
+use Rattle.layout.specs.declared.Array.{Array}
+use Rattle.tag.specs.Numbers.{bytesOf, numberOf}
+use Rattle.tag.specs.Blocks.{blockLength, dataOf, tagOf}
+use Rattle.tag.specs.declared.Fields.{Fields}
+use Rattle.tag.specs.declared.Checked.{Checked}
+use Rattle.tag.specs.declared.Checked.the-variants.{Refused, Good, Guard, Application, Reference}
+
+-- the eight bytes of three fields, and the fields in a tag's bytes
+unfoldable pub tagBytes : Fields → List ℕ
+tagBytes f = bytesOf 2 (f .guard) ++ bytesOf 2 (f .application) ++ bytesOf 4 (f .reference)
+
+unfoldable pub found : List ℕ → Fields
+found tag = record { guard = numberOf (take 2 tag); application = numberOf (take 2 (drop 2 tag)); reference = numberOf (take 4 (drop 4 tag)) }
+
+-- the application tag: 80h marks a parity block, then the volume
+unfoldable pub applicationDue : Array → ℕ → ℕ → ℕ
+applicationDue a stripe member = cond (isParity a stripe member) 0x8000 0 + a .volume
+
+-- the reference tag: the block's number, and for the parity the lowest one of its stripe
+unfoldable pub referenceDue : Array → ℕ → ℕ → ℕ
+referenceDue a stripe member = referenceOf (cond (isParity a stripe member) (lowestBlock a stripe) (blockAt a stripe (indexAt a stripe member)))
+
+-- the fields due at a place to a block whose data have this guard
+unfoldable pub due : Array → ℕ → ℕ → ℕ → Fields
+due a stripe member dataGuard = record { guard = dataGuard; application = applicationDue a stripe member; reference = referenceDue a stripe member }
+
+-- the same on any numbers: zeros where there is no such place
+unfoldable pub dueAt : Array → ℕ → ℕ → ℕ → Fields
+dueAt a stripe member dataGuard =
+    cond (eqb (ownerRefusal a stripe member) 0) (due a stripe member dataGuard) (record { guard = 0; application = 0; reference = 0 })
+
+-- the first field that differs, 1 guard, 2 application, 3 reference, with what was found and what was due; 0 where none does
+unfoldable pub firstWrong : Fields → Fields → List ℕ
+firstWrong f e =
+    cond (not (eqb (f .guard) (e .guard))) (1 ∷ f .guard ∷ e .guard ∷ [])
+    (cond (not (eqb (f .application) (e .application))) (2 ∷ f .application ∷ e .application ∷ [])
+    (cond (not (eqb (f .reference) (e .reference))) (3 ∷ f .reference ∷ e .reference ∷ [])
+    (0 ∷ 0 ∷ 0 ∷ [])))
+
+-- all three fields are those due
+unfoldable pub fits : Fields → Fields → Bool
+fits f e = eqb (f .guard) (e .guard) && eqb (f .application) (e .application) && eqb (f .reference) (e .reference)
+
+-- a block is good at a place, or bad
+unfoldable pub good : Array → ℕ → ℕ → List ℕ → Bool
+good a stripe member block = fits (found (tagOf block)) (due a stripe member (guard (dataOf block)))
+
+abbrev pub bad : Array → ℕ → ℕ → List ℕ → Bool
+bad a stripe member block = not (good a stripe member block)
+
+-- data with the tag due to them at a place
+unfoldable pub tagged : Array → ℕ → ℕ → List ℕ → List ℕ
+tagged a stripe member bytes = bytes ++ tagBytes (due a stripe member (guard bytes))
+
+-- ---- check, in numbers: which field is wrong, found, expected
+
+unfoldable pub checkRefusal : Array → ℕ → ℕ → ℕ → ℕ
+checkRefusal a stripe member blockBytes = after (ownerRefusal a stripe member) (refuse (not (eqb blockBytes blockLength)) 6 0)
+
+unfoldable pub checkNumbers : Array → ℕ → ℕ → List ℕ → List ℕ
+checkNumbers a stripe member block =
+    answer (checkRefusal a stripe member (length block)) (firstWrong (found (tagOf block)) (due a stripe member (guard (dataOf block))))
+
+abbrev pub checkedNumbers : Checked → List ℕ
+checkedNumbers (Refused number) = 0 ∷ number ∷ 0 ∷ 0 ∷ 0 ∷ []
+checkedNumbers Good = 1 ∷ 0 ∷ 0 ∷ 0 ∷ 0 ∷ []
+checkedNumbers (Guard f e) = 1 ∷ 0 ∷ 1 ∷ f ∷ e ∷ []
+checkedNumbers (Application f e) = 1 ∷ 0 ∷ 2 ∷ f ∷ e ∷ []
+checkedNumbers (Reference f e) = 1 ∷ 0 ∷ 3 ∷ f ∷ e ∷ []
