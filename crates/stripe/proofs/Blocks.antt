@@ -1,0 +1,112 @@
+-- The blocks of a stripe: what stands in each after one is written, and that they are all there is.
+-- Assumes nothing.
+use mathlib.Core.Path.{_≡_, refl, sym, ap, ap₂, _∙_}
+use mathlib.Core.Logic.{_≢_}
+use mathlib.Core.List.{List, [], _∷_, _++_}
+use Prim.Native.Nat.{ℕ, zero, suc, _+_, _-_, _*_, _≤_, _<_}
+use native.Mathlib.Nat.{zero-add, suc-add, add-comm, mul-zero, mul-suc, le-of-suc-le-suc, not-suc-le-zero, zero-lt-suc}
+use native.Mathlib.Decide.{decLt}
+use native.Mathlib.Omega.{arith}
+use lib.ListN.{length, getD, take, drop, set, length-append, length-take, length-drop, take-append-drop}
+use lib.Seq.{take-nil, sets, length-sets, sets-eq, take-set-le, drop-set-lt, take-at, drop-at, drop-append-add, drop-append-le, drop-drop}
+use Rattle.crc.specs.Guard.{guard}
+use Rattle.layout.specs.Places.{ownerRefusal}
+use Rattle.layout.specs.declared.Array.{Array}
+use Rattle.tag.specs.Tags.{due, dueAt, tagBytes, tagged}
+use Rattle.tag.specs.declared.Fields.{Fields}
+use Rattle.tag.proofs.Expected.{due-somewhere}
+use Rattle.stripe.specs.Tables.{table, joined, span}
+use Rattle.stripe.specs.Stripes.{blockOf}
+use Rattle.stripe.specs.Jobs.{withBlock}
+use Rattle.stripe.proofs.Puts.{sets-append}
+use Rattle.stripe.proofs.Tables.{length-table, getD-table, table-ext}
+
+pub drop-take : (from size : ℕ) (l : List ℕ) → drop from (take (from + size) l) ≡ take size (drop from l)
+drop-take zero size l = rw zero-add
+drop-take (suc from) size [] = ap (drop (suc from)) (take-nil (suc from + size)) ∙ sym (take-nil size)
+drop-take (suc from) size (x ∷ l) = rw suc-add (drop-take from size l)
+
+-- ---- a run written over others
+
+pub take-sets : (n : ℕ) (l : List ℕ) (at : ℕ) (vs : List ℕ) → n ≤ at → take n (sets l at vs) ≡ take n l
+take-sets n l at [] h = refl
+take-sets n l at (v ∷ vs) h = take-sets n (set l at v) (suc at) vs (omega arith) ∙ take-set-le n l at v h
+
+pub drop-sets : (n : ℕ) (l : List ℕ) (at : ℕ) (vs : List ℕ) → at + length vs ≤ n → drop n (sets l at vs) ≡ drop n l
+drop-sets n l at [] h = refl
+drop-sets n l at (v ∷ vs) h = drop-sets n (set l at v) (suc at) vs (omega arith) ∙ drop-set-lt n l at v (omega arith)
+
+pub span-sets-same : (l : List ℕ) (at size : ℕ) (vs : List ℕ) → length vs ≡ size → at + size ≤ length l → span at size (sets l at vs) ≡ vs
+unfolding span
+span-sets-same l at size vs long h =
+    let front : length (take at l) ≡ at = simp length-take (omega arith) in
+    ap (λ (x : List ℕ). take size (drop at x)) (sets-eq vs l at (omega arith))
+    ∙ ap (take size) (drop-append-le at (take at l ++ vs) (drop (at + length vs) l) (simp length-append (omega arith))
+    ∙ ap (λ (x : List ℕ). x ++ drop (at + length vs) l) (drop-at (take at l) vs at front))
+    ∙ take-at vs (drop (at + length vs) l) size long
+
+pub span-sets-below : (l : List ℕ) (from size at : ℕ) (vs : List ℕ) → from + size ≤ at → span from size (sets l at vs) ≡ span from size l
+unfolding span
+span-sets-below l from size at vs h =
+    sym (drop-take from size (sets l at vs)) ∙ ap (drop from) (take-sets (from + size) l at vs h) ∙ drop-take from size l
+
+pub span-sets-above : (l : List ℕ) (from size at : ℕ) (vs : List ℕ) → at + length vs ≤ from → span from size (sets l at vs) ≡ span from size l
+unfolding span
+span-sets-above l from size at vs h = ap (take size) (drop-sets from l at vs h)
+
+-- ---- a block written into a stripe
+
+pub block-written : (bytes : List ℕ) (m : ℕ) (block : List ℕ) → length block ≡ 520 → 520 * m + 520 ≤ length bytes → blockOf (withBlock bytes m block) m ≡ block
+block-written bytes m block long h = span-sets-same bytes (520 * m) 520 block long h
+
+pub block-kept : (bytes : List ℕ) (m k : ℕ) (block : List ℕ) → length block ≡ 520 → k ≢ m → blockOf (withBlock bytes m block) k ≡ blockOf bytes k
+block-kept bytes m k block long ne = go (decLt k m)
+  where
+    go : Dec (k < m) → blockOf (withBlock bytes m block) k ≡ blockOf bytes k
+    go (yes l) = span-sets-below bytes (520 * k) 520 (520 * m) block (omega arith)
+    go (no l) = span-sets-above bytes (520 * k) 520 (520 * m) block (omega arith)
+
+-- written as the code writes it: its data, then the tag due to them
+pub block-in-two : (a : Array) (stripe m g : ℕ) (f : Fields) (bytes once twice content tag : List ℕ) → ownerRefusal a stripe m ≡ 0 → length content ≡ 512
+    → g ≡ guard content → f ≡ dueAt a stripe m g → tag ≡ tagBytes f → once ≡ sets bytes (520 * m) content → twice ≡ sets once (520 * m + 512) tag
+    → twice ≡ withBlock bytes m (tagged a stripe m content)
+unfolding tagged
+block-in-two a stripe m g f bytes once twice content tag place long eg ef et e₁ e₂ =
+    let due-here : tag ≡ tagBytes (due a stripe m (guard content)) = et ∙ ap tagBytes (ef ∙ due-somewhere a stripe m g place ∙ ap (due a stripe m) eg) in
+    e₂ ∙ ap₂ (λ (l : List ℕ) (k : ℕ). sets l (520 * m + k) tag) e₁ (sym long) ∙ sets-append bytes (520 * m) content tag
+    ∙ ap (λ (l : List ℕ). sets bytes (520 * m) (content ++ l)) due-here
+
+-- ---- blocks joined
+
+pub span-joined : (size n : ℕ) (f : ℕ → List ℕ) (m : ℕ) → ((i : ℕ) → i < n → length (f i) ≡ size) → m < n → span (size * m) size (joined (table n f)) ≡ f m
+unfolding span
+span-joined size zero f m h l = absurd (not-suc-le-zero l)
+span-joined size (suc n) f zero h l = rw mul-zero (take-at (f 0) (joined (table n (λ i. f (suc i)))) size (h 0 l))
+span-joined size (suc n) f (suc m) h l =
+    let rest = joined (table n (λ i. f (suc i))) in
+    let ahead : size * suc m ≡ length (f 0) + size * m = mul-suc size m ∙ omega (arith, h 0 (zero-lt-suc n)) in
+    ap (λ (k : ℕ). take size (drop k (f 0 ++ rest))) ahead ∙ ap (take size) (drop-append-add (f 0) rest (size * m))
+    ∙ span-joined size n (λ i. f (suc i)) m (λ i p. h (suc i) (omega arith)) (le-of-suc-le-suc l)
+
+pub length-joined : (size n : ℕ) (f : ℕ → List ℕ) → ((i : ℕ) → i < n → length (f i) ≡ size) → length (joined (table n f)) ≡ size * n
+length-joined size zero f h = sym (mul-zero size)
+length-joined size (suc n) f h =
+    length-append (f 0) (joined (table n (λ i. f (suc i)))) ∙ ap₂ (λ (x y : ℕ). x + y) (h 0 (zero-lt-suc n)) (length-joined size n (λ i. f (suc i)) (λ i l. h (suc i) (omega arith)))
+    ∙ omega (arith, mul-suc size n)
+
+-- a run of n parts is its parts, joined
+pub parts-joined : (size n : ℕ) (l : List ℕ) → length l ≡ size * n → joined (table n (λ m. span (size * m) size l)) ≡ l
+unfolding span
+parts-joined size zero [] h = refl
+parts-joined size zero (x ∷ l) h = absurd (omega (arith, mul-zero size))
+parts-joined size (suc n) l h =
+    let first : take size (drop (size * 0) l) ≡ take size l = rw mul-zero in
+    ap₂ (λ (x y : List ℕ). x ++ y) first
+    (ap joined (table-ext n (λ m. take size (drop (size * suc m) l)) (λ m. take size (drop (size * m) (drop size l)))
+    (λ m p. ap (take size) (ap (λ (k : ℕ). drop k l) (mul-suc size m ∙ add-comm (size * m) size) ∙ sym (drop-drop (size * m) size l))))
+    ∙ parts-joined size n (drop size l) (length-drop size l ∙ omega (arith, mul-suc size n)))
+    ∙ take-append-drop size l
+
+-- two stripes with the same blocks are one
+pub same-blocks : (n : ℕ) (a b : List ℕ) → length a ≡ 520 * n → length b ≡ 520 * n → ((m : ℕ) → m < n → blockOf a m ≡ blockOf b m) → a ≡ b
+same-blocks n a b ha hb h = sym (parts-joined 520 n a ha) ∙ ap joined (table-ext n (blockOf a) (blockOf b) h) ∙ parts-joined 520 n b hb

@@ -1,0 +1,14 @@
+pub mod Tables
+pub mod Puts
+pub mod Rows
+pub mod Blocks
+pub mod Others
+pub mod Checked
+pub mod Rebuilds
+pub mod Seals
+pub mod Parity
+pub mod Sealed
+pub mod Restores
+pub mod Served
+pub mod Updates
+pub mod Updated

@@ -1,0 +1,124 @@
+-- What a rebuild gives back. Where the data of all members combined to zero before a block was lost, and the others are good, the lost
+-- data come back, whatever stands in their place, and the whole stripe with them. Where they did not (01 calls such a stripe torn), the
+-- rebuilt block is another one, and its tag fits all the same.
+-- Assumes nothing.
+use mathlib.Core.Path.{_≡_, refl, sym, ap, ap₂, _∙_}
+use mathlib.Core.Logic.{_≢_}
+use mathlib.Core.Bool.{true, false}
+use mathlib.Core.List.{List, [], _∷_}
+use Prim.Native.Nat.{ℕ, _*_, _≤_, _<_}
+use native.Mathlib.Decide.{ℕ-discrete}
+use native.Mathlib.Omega.{arith}
+use lib.ListN.{length}
+use lib.Seq.{length-sets}
+use Rattle.crc.specs.Crc.{Bytes}
+use Rattle.layout.specs.Arrays.{blockRefusal}
+use Rattle.layout.specs.Places.{stripeOf, memberOf, ownerRefusal}
+use Rattle.layout.specs.declared.Array.{Array}
+use Rattle.layout.proofs.Ranges.{place-sound}
+use Rattle.layout.proofs.Bijection.{place-refusal}
+use Rattle.tag.specs.Blocks.{dataOf}
+use Rattle.tag.specs.Tags.{good, tagged}
+use Rattle.tag.proofs.Tagged.{length-tagged, data-of-tagged, tagged-good, good-tagged}
+use Rattle.stripe.specs.Stripes.{stripeLength, blockOf, othersData, othersGood}
+use Rattle.stripe.specs.Jobs.{rebuilt, rebuildRefusal, rebuildBytes}
+use Rattle.stripe.proofs.Rows.{length-othersData, length-span}
+use Rattle.stripe.proofs.Blocks.{block-written, block-kept, same-blocks}
+use Rattle.stripe.proofs.Others.{good-others}
+use Rattle.stripe.proofs.Rebuilds.{rebuild-others, rebuild-done}
+use Rattle.stripe.proofs.Served.{Reads, read-rebuilt}
+use Rattle.stripe.proofs.Parity.{Parity, others-are-one, one-is-others, others-ext}
+
+module _ (a : Array) (stripe member : ℕ) (bytes : List ℕ) (place : ownerRefusal a stripe member ≡ 0) (long : length bytes ≡ stripeLength a) where
+  here : member < a .members
+  here = place-sound a stripe member place .here
+
+  made : List ℕ
+  made = tagged a stripe member (othersData (a .members) member bytes)
+
+  length-made : length made ≡ 520
+  unfolding made
+  length-made = length-tagged a stripe member (othersData (a .members) member bytes) (length-othersData (a .members) member bytes)
+
+  -- the block that is made, and the others
+  pub rebuilt-block : blockOf (rebuilt a stripe member bytes) member ≡ tagged a stripe member (othersData (a .members) member bytes)
+  unfolding rebuilt made
+  rebuilt-block = block-written bytes member made length-made (omega (arith, here))
+
+  pub rebuilt-data : dataOf (blockOf (rebuilt a stripe member bytes) member) ≡ othersData (a .members) member bytes
+  rebuilt-data = ap dataOf rebuilt-block ∙ data-of-tagged a stripe member (othersData (a .members) member bytes) (length-othersData (a .members) member bytes)
+
+  pub rebuilt-others : (k : ℕ) → k ≢ member → blockOf (rebuilt a stripe member bytes) k ≡ blockOf bytes k
+  unfolding rebuilt made
+  rebuilt-others k ne = block-kept bytes member k made length-made ne
+
+  pub length-rebuilt : length (rebuilt a stripe member bytes) ≡ stripeLength a
+  unfolding rebuilt
+  length-rebuilt = length-sets bytes (520 * member) (tagged a stripe member (othersData (a .members) member bytes)) ∙ long
+
+  -- its tag fits, whatever the others hold
+  pub rebuilt-good : a .volume < 256 → good a stripe member (blockOf (rebuilt a stripe member bytes) member) ≡ true
+  rebuilt-good small =
+      ap (good a stripe member) rebuilt-block
+      ∙ tagged-good a stripe member (othersData (a .members) member bytes) (length-othersData (a .members) member bytes) place small
+
+-- a stripe before a loss, and after it: anything may stand at the lost member
+module _ (a : Array) (stripe member : ℕ) (before damaged : List ℕ) (place : ownerRefusal a stripe member ≡ 0)
+    (long : length before ≡ stripeLength a) (as-long : length damaged ≡ stripeLength a)
+    (kept : (k : ℕ) → k < a .members → k ≢ member → blockOf damaged k ≡ blockOf before k)
+    (good-before : (k : ℕ) → k < a .members → k ≢ member → good a stripe k (blockOf before k) ≡ true) where
+  pub sources-good : othersGood a stripe member damaged ≡ true
+  sources-good = good-others a stripe member damaged (λ k h ne. ap (good a stripe k) (kept k h ne) ∙ good-before k h ne)
+
+  pub rebuild-accepted : rebuildRefusal a stripe member damaged ≡ 0
+  rebuild-accepted = rebuild-others a stripe member damaged place as-long true sources-good
+
+  same-others : othersData (a .members) member damaged ≡ othersData (a .members) member before
+  same-others = others-ext (a .members) member damaged before (λ k h ne. ap dataOf (kept k h ne))
+
+  -- the others' data are the lost ones exactly where parity was right
+  pub lost-data : Parity (a .members) before → othersData (a .members) member damaged ≡ dataOf (blockOf before member)
+  lost-data parity = same-others ∙ others-are-one (a .members) member before (place-sound a stripe member place .here) (omega arith) parity
+
+  pub torn-data : (Parity (a .members) before → ⊥) → othersData (a .members) member damaged ≢ dataOf (blockOf before member)
+  torn-data torn e = torn (one-is-others (a .members) member before (place-sound a stripe member place .here) (sym same-others ∙ e))
+
+  -- the rebuilt stripe is the one before the loss
+  pub rebuild-restores : Parity (a .members) before → Bytes (blockOf before member) → good a stripe member (blockOf before member) ≡ true
+      → rebuildBytes a stripe member damaged ≡ before
+  rebuild-restores parity bytes was-good =
+      sym (rebuild-done a stripe member damaged rebuild-accepted)
+      ∙ same-blocks (a .members) (rebuilt a stripe member damaged) before (length-rebuilt a stripe member damaged place as-long) long (λ k h. at k h (ℕ-discrete k member))
+    where
+      size : length (blockOf before member) ≡ 520
+      size = length-span (520 * member) 520 before (omega (arith, place-sound a stripe member place .here))
+
+      at : (k : ℕ) → k < a .members → Dec (k ≡ member) → blockOf (rebuilt a stripe member damaged) k ≡ blockOf before k
+      at k h (yes e) =
+          rw e
+          (rebuilt-block a stripe member damaged place as-long ∙ ap (tagged a stripe member) (lost-data parity)
+          ∙ sym (good-tagged a stripe member (blockOf before member) size bytes was-good))
+      at k h (no ne) = rebuilt-others a stripe member damaged place as-long k ne ∙ kept k h ne
+
+  -- and of a torn one the rebuilt block is another, though it is good
+  pub torn-rebuilds-another : (Parity (a .members) before → ⊥) → a .volume < 256
+      → (dataOf (blockOf (rebuildBytes a stripe member damaged) member) ≢ dataOf (blockOf before member))
+      × (good a stripe member (blockOf (rebuildBytes a stripe member damaged) member) ≡ true)
+  torn-rebuilds-another torn small =
+      let done = rebuild-done a stripe member damaged rebuild-accepted in (
+        λ e. torn-data torn (sym (rebuilt-data a stripe member damaged place as-long) ∙ ap (λ (x : List ℕ). dataOf (blockOf x member)) done ∙ e),
+        ap (λ (x : List ℕ). good a stripe member (blockOf x member)) (sym done) ∙ rebuilt-good a stripe member damaged place as-long small,
+      )
+
+-- a read whose block was lost serves the lost data too, where parity was right and the others are good
+pub read-restores : (a : Array) (block : ℕ) (before damaged out : List ℕ) → blockRefusal a block ≡ 0
+    → length before ≡ stripeLength a → length damaged ≡ stripeLength a → length out ≡ 512
+    → ((k : ℕ) → k < a .members → k ≢ memberOf a block → blockOf damaged k ≡ blockOf before k)
+    → ((k : ℕ) → k < a .members → k ≢ memberOf a block → good a (stripeOf a block) k (blockOf before k) ≡ true)
+    → good a (stripeOf a block) (memberOf a block) (blockOf damaged (memberOf a block)) ≡ false → Parity (a .members) before
+    → Reads a block damaged out (1 ∷ 0 ∷ 1 ∷ []) (dataOf (blockOf before (memberOf a block)))
+read-restores a block before damaged out taken long as-long room kept good-before lost parity =
+    let s = stripeOf a block in
+    let m = memberOf a block in
+    let read = read-rebuilt a block damaged out taken as-long room lost (λ k h ne. ap (good a s k) (kept k h ne) ∙ good-before k h ne) in
+    (read .0, sym (lost-data a s m before damaged (place-refusal a block taken) long as-long kept good-before parity) ∙ read .1)

@@ -1,0 +1,172 @@
+-- A verified read: what it answers and leaves in the buffer in each case, first of the block at a place, then of a block of the array.
+-- The last three laws are what a reader of the array relies on. Assumes nothing.
+use mathlib.Core.Path.{_≡_, refl, sym, ap, ap₂, _∙_}
+use mathlib.Core.Logic.{_≢_}
+use mathlib.Core.Bool.{Bool, true, false, cond}
+use mathlib.Core.List.{List, [], _∷_, _++_, append-nil}
+use Prim.Native.Nat.{ℕ, zero, suc, _+_, _-_, _*_, _≤_, _<_}
+use native.Mathlib.Omega.{arith}
+use borrow.Author.Tests.{eq-eqb, ne-eqb}
+use lib.ListN.{length, take, drop, drop-of-length-le}
+use lib.Seq.{sets, sets-eq, take-take}
+use Rattle.layout.specs.Answers.{answer}
+use Rattle.layout.specs.Arrays.{blockRefusal}
+use Rattle.layout.specs.Places.{stripeOf, memberOf, placeNumbers, ownerRefusal}
+use Rattle.layout.specs.declared.Array.{Array}
+use Rattle.layout.proofs.Bijection.{place-refusal}
+use Rattle.tag.specs.Blocks.{dataOf}
+use Rattle.stripe.specs.Tables.{span}
+use Rattle.stripe.specs.Stripes.{stripeLength, blockOf, othersGood, othersData}
+use Rattle.stripe.specs.Jobs.{unlessRefused, storedGood, serveRefusal, servedData, readRefusal, readNumbers, readOut}
+use Rattle.tag.proofs.Tagged.{length-data}
+use Rattle.stripe.proofs.Rows.{lent-span, length-span}
+use Rattle.stripe.proofs.Others.{others-are-good, good-others}
+
+-- ---- a buffer filled whole
+
+pub sets-whole : (l vs : List ℕ) → length l ≡ length vs → sets l 0 vs ≡ vs
+sets-whole l vs h =
+    sets-eq vs l 0 (omega arith)
+    ∙ ap (λ (x : List ℕ). vs ++ x) (drop-of-length-le l {i = 0 + length vs} (omega arith)) ∙ append-nil vs
+
+-- the data of a block, lent out of its stripe
+pub lent-data : (member : ℕ) (bytes : List ℕ) → take (520 * member + 512 - 520 * member) (drop (520 * member) bytes) ≡ dataOf (blockOf bytes member)
+unfolding dataOf span
+lent-data member bytes = lent-span (520 * member) 512 bytes ∙ sym (take-take 512 520 (drop (520 * member) bytes) (omega arith))
+
+-- a buffer filled with what a part of a stripe, or a run, holds
+pub filled-with-data : (member : ℕ) (bytes out left : List ℕ) → 520 * member + 520 ≤ length bytes → length out ≡ 512
+    → left ≡ sets out 0 (take (520 * member + 512 - 520 * member) (drop (520 * member) bytes)) → left ≡ dataOf (blockOf bytes member)
+filled-with-data member bytes out left h room e =
+    e ∙ ap (sets out 0) (lent-data member bytes)
+    ∙ sets-whole out (dataOf (blockOf bytes member)) (room ∙ sym (length-data (blockOf bytes member) (length-span (520 * member) 520 bytes h)))
+
+pub filled-with-run : (run content out left : List ℕ) → length out ≡ length run → content ≡ run → left ≡ sets out 0 content → left ≡ run
+filled-with-run run content out left room same e = e ∙ ap (sets out 0) same ∙ sets-whole out run room
+
+-- one bad member is enough
+pub bad-other : (a : Array) (stripe skip : ℕ) (bytes : List ℕ) (k : ℕ) → k < a .members → k ≢ skip → storedGood a stripe k bytes ≡ false → othersGood a stripe skip bytes ≡ false
+bad-other a stripe skip bytes k h other bad = by-flag (othersGood a stripe skip bytes) refl
+  where
+    by-flag : (f : Bool) → othersGood a stripe skip bytes ≡ f → f ≡ false
+    by-flag true e = let good = others-are-good a stripe skip bytes e k h other in cc
+    by-flag false e = refl
+
+-- ---- the block at a place
+
+module _ (a : Array) (stripe member : ℕ) (bytes out : List ℕ) where
+  -- the answer of a read there, and what it leaves in the buffer
+  abbrev pub Serves : List ℕ → List ℕ → Type 0
+  Serves numbers left =
+      (numbers ≡ answer (serveRefusal a stripe member bytes (length out)) (cond (storedGood a stripe member bytes) 0 1 ∷ []))
+      × (left ≡ unlessRefused (serveRefusal a stripe member bytes (length out)) (servedData a stripe member bytes) out)
+
+  serve-refused : (n : ℕ) → serveRefusal a stripe member bytes (length out) ≡ suc n → Serves (0 ∷ suc n ∷ 0 ∷ []) out
+  serve-refused n e = (rw e, rw (e, ne-eqb (suc n) 0 (omega arith)))
+
+  pub serve-other-stripe : length bytes ≢ stripeLength a → Serves (0 ∷ 6 ∷ 0 ∷ []) out
+  unfolding serveRefusal
+  serve-other-stripe h = serve-refused 5 (rw (ne-eqb (length bytes) (stripeLength a) h))
+
+  module _ (long : length bytes ≡ stripeLength a) where
+    pub serve-other-out : length out ≢ 512 → Serves (0 ∷ 6 ∷ 0 ∷ []) out
+    unfolding serveRefusal
+    serve-other-out h = serve-refused 5 (rw (eq-eqb (length bytes) (stripeLength a) long, ne-eqb (length out) 512 h))
+
+    module _ (room : length out ≡ 512) where
+      pub serve-stored : (left : List ℕ) → storedGood a stripe member bytes ≡ true → left ≡ dataOf (blockOf bytes member) → Serves (1 ∷ 0 ∷ 0 ∷ []) left
+      unfolding serveRefusal servedData
+      serve-stored left good e =
+          let l = eq-eqb (length bytes) (stripeLength a) long in
+          let r = eq-eqb (length out) 512 room in
+          (rw (l, r, good), rw (l, r, good) e)
+
+      module _ (bad : storedGood a stripe member bytes ≡ false) where
+        pub serve-rebuilt : (left : List ℕ) → othersGood a stripe member bytes ≡ true → left ≡ othersData (a .members) member bytes → Serves (1 ∷ 0 ∷ 1 ∷ []) left
+        unfolding serveRefusal servedData
+        serve-rebuilt left good e =
+            let l = eq-eqb (length bytes) (stripeLength a) long in
+            let r = eq-eqb (length out) 512 room in
+            (rw (l, r, bad, good), rw (l, r, bad, good) e)
+
+        pub serve-damaged : othersGood a stripe member bytes ≡ false → Serves (0 ∷ 9 ∷ 0 ∷ []) out
+        unfolding serveRefusal
+        serve-damaged others = serve-refused 8 (rw (eq-eqb (length bytes) (stripeLength a) long, eq-eqb (length out) 512 room, bad, others))
+
+-- ---- from the answer of `place`
+
+-- a refusal in numbers tells the refusal number, and a place the place
+pub refused-by-place : (a : Array) (block number : ℕ) → 0 ∷ number ∷ 0 ∷ 0 ∷ [] ≡ placeNumbers a block → (blockRefusal a block ≡ number) × (number ≢ 0)
+unfolding placeNumbers
+refused-by-place a block number e = by-refusal (blockRefusal a block) e
+  where
+    by-refusal : (n : ℕ) → 0 ∷ number ∷ 0 ∷ 0 ∷ [] ≡ answer n (stripeOf a block ∷ memberOf a block ∷ []) → (n ≡ number) × (number ≢ 0)
+    by-refusal zero e = let z : _≡_ {A = ℕ} 0 1 = cc in absurd (omega arith)
+    by-refusal (suc n) e = let same : number ≡ suc n = cc in (sym same, omega arith)
+
+pub record PlacedAt (a : Array) (block stripe member : ℕ) : Type 0 where
+  pub taken : blockRefusal a block ≡ 0
+  pub in-stripe : stripe ≡ stripeOf a block
+  pub on-member : member ≡ memberOf a block
+
+pub placed-at : (a : Array) (block stripe member : ℕ) → 1 ∷ 0 ∷ stripe ∷ member ∷ [] ≡ placeNumbers a block → PlacedAt a block stripe member
+unfolding placeNumbers
+placed-at a block stripe member e = by-refusal (blockRefusal a block) refl e
+  where
+    by-refusal : (n : ℕ) → blockRefusal a block ≡ n → 1 ∷ 0 ∷ stripe ∷ member ∷ [] ≡ answer n (stripeOf a block ∷ memberOf a block ∷ []) → PlacedAt a block stripe member
+    by-refusal zero r e = record { taken = r; in-stripe = cc; on-member = cc }
+    by-refusal (suc n) r e = let z : _≡_ {A = ℕ} 1 0 = cc in absurd (omega arith)
+
+pub placed-sound : (a : Array) (block stripe member : ℕ) → PlacedAt a block stripe member → ownerRefusal a stripe member ≡ 0
+placed-sound a block stripe member p = ap₂ (ownerRefusal a) (p .in-stripe) (p .on-member) ∙ place-refusal a block (p .taken)
+
+-- ---- a block of the array
+
+module _ (a : Array) (block : ℕ) (bytes out : List ℕ) where
+  -- the answer of a read, and what it leaves in the buffer
+  abbrev pub Reads : List ℕ → List ℕ → Type 0
+  Reads numbers left = (numbers ≡ readNumbers a block bytes (length out)) × (left ≡ readOut a block bytes out)
+
+  pub read-refused : (number : ℕ) → 0 ∷ number ∷ 0 ∷ 0 ∷ [] ≡ placeNumbers a block → Reads (0 ∷ number ∷ 0 ∷ []) out
+  unfolding readRefusal readNumbers readOut
+  read-refused number e = let h = refused-by-place a block number e in by-number number (h .0) (h .1)
+    where
+      by-number : (n : ℕ) → blockRefusal a block ≡ n → n ≢ 0 → Reads (0 ∷ n ∷ 0 ∷ []) out
+      by-number zero r h = absurd (h refl)
+      by-number (suc n) r h = (rw r, rw (r, ne-eqb (suc n) 0 h))
+
+  pub read-served : (stripe member : ℕ) (numbers left : List ℕ) → PlacedAt a block stripe member → Serves a stripe member bytes out numbers left → Reads numbers left
+  unfolding readRefusal readNumbers readOut
+  read-served stripe member numbers left p s =
+      let r = p .taken in
+      let i = p .in-stripe in
+      let m = p .on-member in
+      (rw (r, ← m, ← i) (s .0), rw (r, ← m, ← i) (s .1))
+
+  -- ---- nothing is refused before the block is looked at: stored, rebuilt, or refused with the buffer as it was
+
+  module _ (taken : blockRefusal a block ≡ 0) (long : length bytes ≡ stripeLength a) (room : length out ≡ 512) where
+    own : PlacedAt a block (stripeOf a block) (memberOf a block)
+    own = record { taken = taken; in-stripe = refl; on-member = refl }
+
+    -- a good block is served as it is stored, whatever the other members hold
+    pub read-stored : storedGood a (stripeOf a block) (memberOf a block) bytes ≡ true → Reads (1 ∷ 0 ∷ 0 ∷ []) (dataOf (blockOf bytes (memberOf a block)))
+    read-stored good =
+        let s = stripeOf a block in
+        let m = memberOf a block in
+        read-served s m (1 ∷ 0 ∷ 0 ∷ []) (dataOf (blockOf bytes m)) own (serve-stored a s m bytes out long room (dataOf (blockOf bytes m)) good refl)
+
+    module _ (bad : storedGood a (stripeOf a block) (memberOf a block) bytes ≡ false) where
+      pub read-rebuilt : ((m : ℕ) → m < a .members → m ≢ memberOf a block → storedGood a (stripeOf a block) m bytes ≡ true)
+          → Reads (1 ∷ 0 ∷ 1 ∷ []) (othersData (a .members) (memberOf a block) bytes)
+      read-rebuilt others =
+          let s = stripeOf a block in
+          let m = memberOf a block in
+          let made = othersData (a .members) m bytes in
+          read-served s m (1 ∷ 0 ∷ 1 ∷ []) made own (serve-rebuilt a s m bytes out long room bad made (good-others a s m bytes others) refl)
+
+      pub read-damaged : (k : ℕ) → k < a .members → k ≢ memberOf a block → storedGood a (stripeOf a block) k bytes ≡ false → Reads (0 ∷ 9 ∷ 0 ∷ []) out
+      read-damaged k h other too =
+          let s = stripeOf a block in
+          let m = memberOf a block in
+          read-served s m (0 ∷ 9 ∷ 0 ∷ []) out own (serve-damaged a s m bytes out long room bad (bad-other a s m bytes k h other too))

@@ -1,0 +1,213 @@
+-- What an update leaves: two blocks anew and every other as it was; whoever was good is good, and the members' data combine to what they did.
+-- Assumes nothing.
+use mathlib.Core.Path.{_≡_, refl, sym, ap, ap₂, _∙_}
+use mathlib.Core.Logic.{_≢_}
+use mathlib.Core.Bool.{true}
+use mathlib.Core.List.{List, [], _∷_}
+use Prim.Native.Nat.{ℕ, zero, suc, _*_, _≤_, _<_}
+use native.Mathlib.Decide.{ℕ-discrete}
+use native.Mathlib.Omega.{arith}
+use borrow.Author.Tests.{eq-eqb, ne-eqb}
+use lib.ListN.{length, getD, set, replicate, length-set}
+use lib.Seq.{length-sets, ext-getD, getD-set-same, getD-set-other}
+use Rattle.xor.specs.Xors.{xors, addAll, combination}
+use Rattle.xor.proofs.Lists.{length-xors, xors-swap, xors-twice, xors-assoc}
+use Rattle.xor.proofs.Combination.{addAll-set, length-combination}
+use Rattle.layout.specs.Answers.{after}
+use Rattle.layout.specs.Arrays.{blockRefusal}
+use Rattle.layout.specs.Places.{parityMember, stripeOf, memberOf, ownerRefusal}
+use Rattle.layout.specs.declared.Array.{Array}
+use Rattle.layout.proofs.Ranges.{place-sound}
+use Rattle.layout.proofs.Bijection.{place-refusal, parity-no-block}
+use Rattle.tag.specs.Blocks.{dataOf}
+use Rattle.tag.specs.Tags.{tagged}
+use Rattle.tag.proofs.Tagged.{length-data, length-tagged, data-of-tagged, tagged-good}
+use Rattle.stripe.specs.Stripes.{blockOf, memberData}
+use Rattle.stripe.specs.Jobs.{withBlock, storedGood, replaceRefusal, replaced, updateRefusal, updateBytes}
+use Rattle.stripe.proofs.Tables.{length-table, getD-table}
+use Rattle.stripe.proofs.Rows.{length-span}
+use Rattle.stripe.proofs.Blocks.{block-written, block-kept}
+use Rattle.stripe.proofs.Served.{Reads, read-stored}
+use Rattle.stripe.proofs.Updates.{parity-sound, replaceable, Inside, inside, length-moved}
+
+-- ---- the members' data, one block written
+
+abbrev dataAt : List ℕ → ℕ → List ℕ
+dataAt bytes m = dataOf (blockOf bytes m)
+
+pub data-with-block : (n : ℕ) (bytes : List ℕ) (m : ℕ) (block : List ℕ) → length block ≡ 520 → m < n → 520 * n ≤ length bytes
+    → memberData n (withBlock bytes m block) ≡ set (memberData n bytes) m (dataOf block)
+data-with-block n bytes m block long h room =
+    ext-getD [] (memberData n (withBlock bytes m block)) (set (memberData n bytes) m (dataOf block))
+    (length-table n (dataAt (withBlock bytes m block)) ∙ sym (length-set (memberData n bytes) m (dataOf block) ∙ length-table n (dataAt bytes)))
+    (λ i l. at i (rw length-table at l) (ℕ-discrete i m))
+  where
+    at : (i : ℕ) → i < n → Dec (i ≡ m) → getD (memberData n (withBlock bytes m block)) i [] ≡ getD (set (memberData n bytes) m (dataOf block)) i []
+    at i l (yes e) =
+        getD-table n (dataAt (withBlock bytes m block)) [] i l
+        ∙ ap dataOf (ap (blockOf (withBlock bytes m block)) e ∙ block-written bytes m block long (omega arith))
+        ∙ sym (ap (λ (k : ℕ). getD (set (memberData n bytes) m (dataOf block)) k []) e ∙ getD-set-same (memberData n bytes) m (dataOf block) [] (rw length-table h))
+    at i l (no ne) =
+        getD-table n (dataAt (withBlock bytes m block)) [] i l ∙ ap dataOf (block-kept bytes m i block long ne)
+        ∙ sym (getD-set-other (memberData n bytes) m i (dataOf block) [] ne ∙ getD-table n (dataAt bytes) [] i l)
+
+-- old data and old parity out, new data and moved parity in: nothing is changed in sum
+pub moved-cancels : (z old new parity : List ℕ) → length z ≡ length parity → xors (xors (xors (xors z old) new) parity) (xors (xors parity old) new) ≡ z
+moved-cancels z old new parity long =
+    let w = xors (xors z old) new in
+    let count : length (xors w parity) ≡ length parity =
+    length-xors w parity ∙ length-xors (xors z old) new ∙ length-xors z old ∙ long in
+    sym (xors-assoc (xors w parity) (xors parity old) new (omega (arith, length-xors parity old)))
+    ∙ ap (λ (x : List ℕ). xors x new)
+    (sym (xors-assoc (xors w parity) parity old (omega arith)) ∙ ap (λ (x : List ℕ). xors x old) (xors-twice w parity) ∙ xors-swap (xors z old) new old
+    ∙ ap (λ (x : List ℕ). xors x new) (xors-twice z old))
+    ∙ xors-twice z new
+
+-- ---- the block at a place
+
+module _ (a : Array) (stripe member : ℕ) (new bytes : List ℕ) where
+  -- the parity's data that an update leaves
+  abbrev pub movedData : List ℕ
+  movedData = xors (xors (dataOf (blockOf bytes (parityMember a stripe))) (dataOf (blockOf bytes member))) new
+
+  length-replaced : length (replaced a stripe member new bytes) ≡ length bytes
+  unfolding replaced
+  length-replaced =
+      length-sets (withBlock bytes member (tagged a stripe member new)) (520 * parityMember a stripe) (tagged a stripe (parityMember a stripe) movedData)
+      ∙ length-sets bytes (520 * member) (tagged a stripe member new)
+
+  module _ (place : ownerRefusal a stripe member ≡ 0) (apart : member ≢ parityMember a stripe) (taken : replaceRefusal a stripe member (length new) bytes ≡ 0) where
+    fit : Inside a stripe member (length new) bytes
+    fit = inside a stripe member (length new) bytes place taken
+
+    abbrev once : List ℕ
+    once = withBlock bytes member (tagged a stripe member new)
+
+    long-own : length (tagged a stripe member new) ≡ 520
+    long-own = length-tagged a stripe member new (fit .size)
+
+    long-moved : length movedData ≡ 512
+    long-moved = length-moved (parityMember a stripe) bytes (dataOf (blockOf bytes member)) new (fit .parity)
+
+    long-parity : length (tagged a stripe (parityMember a stripe) movedData) ≡ 520
+    long-parity = length-tagged a stripe (parityMember a stripe) movedData long-moved
+
+    kept-once : length once ≡ length bytes
+    kept-once = length-sets bytes (520 * member) (tagged a stripe member new)
+
+    replaced-own : blockOf (replaced a stripe member new bytes) member ≡ tagged a stripe member new
+    unfolding replaced
+    replaced-own =
+        block-kept once (parityMember a stripe) member (tagged a stripe (parityMember a stripe) movedData) long-parity apart
+        ∙ block-written bytes member (tagged a stripe member new) long-own (fit .own)
+
+    replaced-parity : blockOf (replaced a stripe member new bytes) (parityMember a stripe) ≡ tagged a stripe (parityMember a stripe) movedData
+    unfolding replaced
+    replaced-parity =
+        block-written once (parityMember a stripe) (tagged a stripe (parityMember a stripe) movedData) long-parity (omega (arith, kept-once, fit .parity))
+
+    replaced-other : (k : ℕ) → k ≢ member → k ≢ parityMember a stripe → blockOf (replaced a stripe member new bytes) k ≡ blockOf bytes k
+    unfolding replaced
+    replaced-other k own parity =
+        block-kept once (parityMember a stripe) k (tagged a stripe (parityMember a stripe) movedData) long-parity parity
+        ∙ block-kept bytes member k (tagged a stripe member new) long-own own
+
+    replaced-good : a .volume < 256 → (k : ℕ) → storedGood a stripe k bytes ≡ true → storedGood a stripe k (replaced a stripe member new bytes) ≡ true
+    replaced-good volume k good = by-kind (ℕ-discrete k member) (ℕ-discrete k (parityMember a stripe))
+      where
+        by-kind : Dec (k ≡ member) → Dec (k ≡ parityMember a stripe) → storedGood a stripe k (replaced a stripe member new bytes) ≡ true
+        by-kind (yes e) p = rw (e, replaced-own) (tagged-good a stripe member new (fit .size) place volume)
+        by-kind (no o) (yes e) = rw (e, replaced-parity) (tagged-good a stripe (parityMember a stripe) movedData long-moved (parity-sound a stripe member place) volume)
+        by-kind (no o) (no p) = rw (replaced-other k o p) good
+
+    replaced-combination : combination 512 (memberData (a .members) (replaced a stripe member new bytes)) ≡ combination 512 (memberData (a .members) bytes)
+    unfolding replaced
+    replaced-combination =
+        let n = a .members in
+        let p = parityMember a stripe in
+        let runs = memberData n bytes in
+        let zeros : List ℕ = replicate 512 0 in
+        let h = place-sound a stripe member place in
+        let hp = place-sound a stripe p (parity-sound a stripe member place) in
+        let r = replaceable a stripe member (length new) bytes taken in
+        let own : getD runs member [] ≡ dataOf (blockOf bytes member) = getD-table n (dataAt bytes) [] member (h .here) in
+        let parity : getD (set runs member new) p [] ≡ dataOf (blockOf bytes p) =
+        getD-set-other runs member p new [] (λ e. apart (sym e)) ∙ getD-table n (dataAt bytes) [] p (hp .here) in
+        let first : memberData n once ≡ set runs member new =
+        data-with-block n bytes member (tagged a stripe member new) long-own (h .here) (omega arith)
+        ∙ ap (set runs member) (data-of-tagged a stripe member new (fit .size)) in
+        let second : memberData n (withBlock once p (tagged a stripe p movedData)) ≡ set (set runs member new) p movedData =
+        data-with-block n once p (tagged a stripe p movedData) long-parity (hp .here) (omega (arith, kept-once))
+        ∙ ap₂ (λ (x : List (List ℕ)) (y : List ℕ). set x p y) first (data-of-tagged a stripe p movedData long-moved) in
+        let inRuns : member < length runs = rw length-table (h .here) in
+        let inSet : p < length (set runs member new) = simp (length-set, length-table) (hp .here) in
+        ap (addAll zeros) second ∙ addAll-set zeros (set runs member new) p movedData inSet
+        ∙ ap₂ (λ (x y : List ℕ). xors (xors x y) movedData) (addAll-set zeros runs member new inRuns ∙ ap (λ (x : List ℕ). xors (xors (addAll zeros runs) x) new) own) parity
+        ∙ moved-cancels (addAll zeros runs) (dataOf (blockOf bytes member)) new (dataOf (blockOf bytes p))
+        (length-combination 512 runs ∙ sym (length-data (blockOf bytes p) (length-span (520 * p) 520 bytes (fit .parity))))
+
+-- ---- a block of the array
+
+module _ (a : Array) (block : ℕ) (new bytes : List ℕ) where
+  -- a refused update leaves the stripe as it was
+  pub update-refused-keeps : updateRefusal a block (length new) bytes ≢ 0 → updateBytes a block new bytes ≡ bytes
+  unfolding updateBytes
+  update-refused-keeps h = rw (ne-eqb (updateRefusal a block (length new) bytes) 0 h)
+
+  module _ (done : updateRefusal a block (length new) bytes ≡ 0) where
+    refusals : (blockRefusal a block ≡ 0) × (replaceRefusal a (stripeOf a block) (memberOf a block) (length new) bytes ≡ 0)
+    unfolding updateRefusal
+    refusals = none (blockRefusal a block) (replaceRefusal a (stripeOf a block) (memberOf a block) (length new) bytes) done
+      where
+        none : (n later : ℕ) → after n later ≡ 0 → (n ≡ 0) × (later ≡ 0)
+        none zero later e = (refl, e)
+        none (suc n) later e = absurd (omega arith)
+
+    place : ownerRefusal a (stripeOf a block) (memberOf a block) ≡ 0
+    place = place-refusal a block (refusals .0)
+
+    apart : memberOf a block ≢ parityMember a (stripeOf a block)
+    apart = parity-no-block a block
+
+    as-replaced : updateBytes a block new bytes ≡ replaced a (stripeOf a block) (memberOf a block) new bytes
+    unfolding updateBytes
+    as-replaced = rw (eq-eqb (updateRefusal a block (length new) bytes) 0 done)
+
+    pub update-keeps-length : length (updateBytes a block new bytes) ≡ length bytes
+    update-keeps-length = ap length as-replaced ∙ length-replaced a (stripeOf a block) (memberOf a block) new bytes
+
+    -- the block holds the new data, the parity's block what brings it along, and every other block is byte for byte as it was
+    pub update-own : blockOf (updateBytes a block new bytes) (memberOf a block) ≡ tagged a (stripeOf a block) (memberOf a block) new
+    update-own = rw as-replaced (replaced-own a (stripeOf a block) (memberOf a block) new bytes place apart (refusals .1))
+
+    pub update-parity : blockOf (updateBytes a block new bytes) (parityMember a (stripeOf a block))
+        ≡ tagged a (stripeOf a block) (parityMember a (stripeOf a block)) (movedData a (stripeOf a block) (memberOf a block) new bytes)
+    update-parity = rw as-replaced (replaced-parity a (stripeOf a block) (memberOf a block) new bytes place apart (refusals .1))
+
+    pub update-keeps-others : (m : ℕ) → m ≢ memberOf a block → m ≢ parityMember a (stripeOf a block) → blockOf (updateBytes a block new bytes) m ≡ blockOf bytes m
+    update-keeps-others m own parity = rw as-replaced (replaced-other a (stripeOf a block) (memberOf a block) new bytes place apart (refusals .1) m own parity)
+
+    -- a torn stripe stays as torn as it was, a whole one whole
+    pub update-keeps-combination : combination 512 (memberData (a .members) (updateBytes a block new bytes)) ≡ combination 512 (memberData (a .members) bytes)
+    update-keeps-combination = rw as-replaced (replaced-combination a (stripeOf a block) (memberOf a block) new bytes place apart (refusals .1))
+
+    module _ (volume : a .volume < 256) where
+      pub update-keeps-good : (m : ℕ) → storedGood a (stripeOf a block) m bytes ≡ true → storedGood a (stripeOf a block) m (updateBytes a block new bytes) ≡ true
+      update-keeps-good m good = rw as-replaced (replaced-good a (stripeOf a block) (memberOf a block) new bytes place apart (refusals .1) volume m good)
+
+      -- every member good and the data combining to zero: so before, so after
+      pub update-keeps-clean : ((m : ℕ) → m < a .members → storedGood a (stripeOf a block) m bytes ≡ true)
+          → combination 512 (memberData (a .members) bytes) ≡ replicate 512 0
+          → ((m : ℕ) → m < a .members → storedGood a (stripeOf a block) m (updateBytes a block new bytes) ≡ true)
+          × (combination 512 (memberData (a .members) (updateBytes a block new bytes)) ≡ replicate 512 0)
+      update-keeps-clean good zeros = (λ m h. update-keeps-good m (good m h), update-keeps-combination ∙ zeros)
+
+      -- a read of the block then says stored, and gives the new data
+      pub read-updated : (out : List ℕ) → length out ≡ 512 → Reads a block (updateBytes a block new bytes) out (1 ∷ 0 ∷ 0 ∷ []) new
+      read-updated out room =
+          let m = memberOf a block in
+          let s = stripeOf a block in
+          let r = replaceable a s m (length new) bytes (refusals .1) in
+          let h = read-stored a block (updateBytes a block new bytes) out (refusals .0) (update-keeps-length ∙ r .long) room (update-keeps-good m (r .own-good)) in
+          let same : dataOf (blockOf (updateBytes a block new bytes) m) ≡ new = ap dataOf update-own ∙ data-of-tagged a s m new (r .size) in
+          (h .0, sym same ∙ h .1)

@@ -1,0 +1,82 @@
+-- `stripe::rebuilding::rebuild` meets its contract.
+-- Assumes nothing.
+use mathlib.Core.Path.{_≡_, refl, sym, ap, _∙_}
+use mathlib.Core.List.{List}
+use Prim.Native.Nat.{ℕ}
+use native.Mathlib.Omega.{arith}
+use lib.ListN.{length}
+use Rattle.layout.specs.declared.Array.{Array}
+use Rattle.tag.specs.Tags.{tagged}
+use Rattle.layout.proofs.Ranges.{place-sound}
+use Rattle.stripe.specs.Stripes.{othersData}
+use Rattle.stripe.specs.Jobs.{withBlock, rebuilt}
+use Rattle.stripe.proofs.Rows.{length-othersData}
+use Rattle.stripe.proofs.Rebuilds.{rebuild-sources, rebuild-kept, rebuild-done}
+use borrow.Author.Needs.{needs}
+use Rattle.stripe.proofs.rebuilding.rebuild.Statement.{statement}
+use Rattle.stripe.proofs.rebuilding.rebuild.Tie as tie
+
+made : (a : Array) (stripe member : ℕ) (bytes content last : List ℕ) → content ≡ othersData (a .members) member bytes
+    → last ≡ withBlock bytes member (tagged a stripe member content) → last ≡ rebuilt a stripe member bytes
+unfolding rebuilt
+made a stripe member bytes content last e f = f ∙ ap (λ (l : List ℕ). withBlock bytes member (tagged a stripe member l)) e
+
+rebuild-refusal-requires : tie.Need-rebuild-refusal-requires
+rebuild-refusal-requires c κs = search needs
+
+same-length : tie.Need-same-length
+same-length c = search needs
+
+returns : tie.Need-returns
+returns c =
+    let k = c .before .rebuild-refusal in
+    let a = c .before .before .before .before .args in
+    (k .ensures, rebuild-kept (a .array) (a .stripe) (a .member) (a .bytes .now) (λ e. c .if1 .taken (k .ensures ∙ e)))
+
+combined-requires : tie.Need-combined-requires
+combined-requires c κs =
+    let k = c .before .before in
+    let a = k .before .before .before .args in
+    let found = rebuild-sources (a .array) (a .stripe) (a .member) (a .bytes .now) (sym (k .rebuild-refusal .ensures) ∙ c .before .if1 .left) in
+    omega (arith, found .long)
+
+slice-aggregate-write-block : tie.Need-slice-aggregate-write-block
+slice-aggregate-write-block c = search needs
+
+write-block-requires : tie.Need-write-block-requires
+write-block-requires c κs =
+    let m = c .before .before in
+    let k = m .before .before .before in
+    let a = k .before .before .before .args in
+    let found = rebuild-sources (a .array) (a .stripe) (a .member) (a .bytes .now) (sym (k .rebuild-refusal .ensures) ∙ m .before .before .if1 .left) in
+    let count : length (m .combined .result) ≡ 512 = ap length (m .combined .ensures) ∙ length-othersData (a .array .members) (a .member) (a .bytes .now) in
+    let here = place-sound (a .array) (a .stripe) (a .member) (found .place) .here in
+    (found .place, (count, omega (arith, found .long)))
+
+same-length-2 : tie.Need-same-length-2
+same-length-2 c = search needs
+
+returns-2 : tie.Need-returns-2
+returns-2 c =
+    let w = c .before .before in
+    let m = w .before .before .before in
+    let k = m .before .before .before in
+    let a = k .before .before .before .args in
+    let none = sym (k .rebuild-refusal .ensures) ∙ m .before .before .if1 .left in (
+      sym none,
+      made (a .array) (a .stripe) (a .member) (a .bytes .now) (m .combined .result) (w .write-block .last .1 .1 .1 .1 .0) (m .combined .ensures) (w .write-block .ensures)
+          ∙ rebuild-done (a .array) (a .stripe) (a .member) (a .bytes .now) none,
+    )
+
+pub rebuild-spec : {M : Type 1} → statement M
+rebuild-spec =
+    tie.close
+    (tie.spec
+    rebuild-refusal-requires
+    same-length
+    returns
+    combined-requires
+    slice-aggregate-write-block
+    write-block-requires
+    same-length-2
+    returns-2)

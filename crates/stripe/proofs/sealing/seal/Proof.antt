@@ -1,0 +1,99 @@
+-- `stripe::sealing::seal` meets its contract.
+-- Assumes nothing.
+use mathlib.Core.Path.{_≡_, refl, sym, ap, _∙_}
+use Prim.Native.Nat.{ℕ, _+_, _*_, _≤_, _<_}
+use native.Mathlib.Omega.{arith}
+use lib.ListN.{length}
+use Rattle.layout.proofs.Ranges.{Sound, stripe-sound, sound-place}
+use Rattle.layout.proofs.Members.{parity-below}
+use Rattle.stripe.specs.Stripes.{stripeLength}
+use Rattle.stripe.proofs.Rows.{length-othersData}
+use Rattle.stripe.proofs.Seals.{Fitting, seal-fitting, seal-kept, seal-done, length-written, sealed-by-calls}
+use borrow.Author.Needs.{needs}
+use Rattle.stripe.proofs.sealing.seal.Statement.{statement}
+use Rattle.stripe.proofs.sealing.seal.Tie as tie
+
+seal-refusal-requires : tie.Need-seal-refusal-requires
+seal-refusal-requires c κs = search needs
+
+returns : tie.Need-returns
+returns c =
+    let k = c .before .seal-refusal in
+    let a = c .before .before .before .before .args in
+    (k .ensures, seal-kept (a .array) (a .stripe) (a .content .now) (a .bytes .now) (λ e. c .if1 .taken (k .ensures ∙ e)))
+
+write-data-requires : tie.Need-write-data-requires
+write-data-requires c κs =
+    let k = c .before .before in
+    let a = k .before .before .before .args in
+    let fitting = seal-fitting (a .array) (a .stripe) (length (a .content .now)) (length (a .bytes .now)) (sym (k .seal-refusal .ensures) ∙ c .before .if1 .left) in
+    (fitting .stripe-good, (fitting .content-long, fitting .stripe-long))
+
+parity-member-requires : tie.Need-parity-member-requires
+parity-member-requires c κs = search needs
+
+combined-requires : tie.Need-combined-requires
+combined-requires c κs =
+    let w = c .before .before .before .before in
+    let k = w .before .before .before in
+    let a = k .before .before .before .args in
+    let fitting = seal-fitting (a .array) (a .stripe) (length (a .content .now)) (length (a .bytes .now)) (sym (k .seal-refusal .ensures) ∙ w .before .before .if1 .left) in
+    let sound = stripe-sound (a .array) (a .stripe) (fitting .stripe-good) in
+    let long : length (w .write-data .last .1 .1 .1 .0) ≡ stripeLength (a .array) =
+    ap length (w .write-data .ensures) ∙ length-written (a .array) (a .stripe) (a .content .now) sound (fitting .content-long) (a .bytes .now) (fitting .stripe-long) in
+    omega arith
+
+slice-aggregate-write-block : tie.Need-slice-aggregate-write-block
+slice-aggregate-write-block c = search needs
+
+write-block-requires : tie.Need-write-block-requires
+write-block-requires c κs =
+    let m = c .before .before in
+    let p = m .before .before in
+    let w = p .before .before .before in
+    let k = w .before .before .before in
+    let a = k .before .before .before .args in
+    let fitting = seal-fitting (a .array) (a .stripe) (length (a .content .now)) (length (a .bytes .now)) (sym (k .seal-refusal .ensures) ∙ w .before .before .if1 .left) in
+    let sound = stripe-sound (a .array) (a .stripe) (fitting .stripe-good) in
+    let long : length (w .write-data .last .1 .1 .1 .0) ≡ stripeLength (a .array) =
+    ap length (w .write-data .ensures) ∙ length-written (a .array) (a .stripe) (a .content .now) sound (fitting .content-long) (a .bytes .now) (fitting .stripe-long) in
+    let count : length (m .combined .result) ≡ 512 = ap length (m .combined .ensures) ∙ length-othersData (a .array .members) (p .parity-member .result) (w .write-data .last .1 .1 .1 .0) in
+    let below : p .parity-member .result < a .array .members = rw (p .parity-member .ensures) (parity-below (a .array) (a .stripe) (omega (arith, sound .array .few))) in
+    (sound-place (a .array) (a .stripe) (p .parity-member .result) (record { stripe = sound; here = below }), (count, omega arith))
+
+same-length : tie.Need-same-length
+same-length c = search needs
+
+returns-2 : tie.Need-returns-2
+returns-2 c =
+    let b = c .before .before in
+    let m = b .before .before .before in
+    let p = m .before .before in
+    let w = p .before .before .before in
+    let k = w .before .before .before in
+    let a = k .before .before .before .args in
+    let fitting = seal-fitting (a .array) (a .stripe) (length (a .content .now)) (length (a .bytes .now)) (sym (k .seal-refusal .ensures) ∙ w .before .before .if1 .left) in
+    let sound = stripe-sound (a .array) (a .stripe) (fitting .stripe-good) in
+    let long : length (w .write-data .last .1 .1 .1 .0) ≡ stripeLength (a .array) =
+    ap length (w .write-data .ensures) ∙ length-written (a .array) (a .stripe) (a .content .now) sound (fitting .content-long) (a .bytes .now) (fitting .stripe-long) in
+    let none = sym (k .seal-refusal .ensures) ∙ w .before .before .if1 .left in (
+      sym none,
+      sealed-by-calls (a .array) (a .stripe) (a .content .now) sound (fitting .content-long) (a .bytes .now) (fitting .stripe-long)
+          (p .parity-member .result) (w .write-data .last .1 .1 .1 .0) (m .combined .result) (b .write-block .last .1 .1 .1 .1 .0)
+          (p .parity-member .ensures) (w .write-data .ensures) (m .combined .ensures) (b .write-block .ensures)
+          ∙ seal-done (a .array) (a .stripe) (a .content .now) (a .bytes .now) none,
+    )
+
+pub seal-spec : {M : Type 1} → statement M
+seal-spec =
+    tie.close
+    (tie.spec
+    seal-refusal-requires
+    returns
+    write-data-requires
+    parity-member-requires
+    combined-requires
+    slice-aggregate-write-block
+    write-block-requires
+    same-length
+    returns-2)

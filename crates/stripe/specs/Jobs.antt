@@ -1,0 +1,120 @@
+-- The jobs on a whole stripe: for each its refusal number, its answer in numbers, and what every lent buffer holds afterwards.
+-- At a refusal a buffer holds what it held. Assumes nothing.
+use Prim.Native.Nat.{ℕ, _*_}
+use mathlib.Core.Bool.{Bool, not, cond, _&&_, _||_}
+use mathlib.Core.List.{List, [], _∷_}
+use lib.Dec.{eqb}
+use lib.ListN.{length}
+use lib.Seq.{sets}
+use Rattle.xor.specs.Xors.{xors, combination}
+use Rattle.layout.specs.Answers.{refuse, after, answer}
+use Rattle.layout.specs.Arrays.{dataMembers, stripeRefusal, blockRefusal}
+use Rattle.layout.specs.Places.{parityMember, stripeOf, memberOf, indexAt, isParity, ownerRefusal}
+use Rattle.layout.specs.declared.Array.{Array}
+use Rattle.tag.specs.Blocks.{dataLength, blockLength, dataOf}
+use Rattle.tag.specs.Tags.{good, tagged}
+use Rattle.stripe.specs.Tables.{table, joined, part}
+use Rattle.stripe.specs.Stripes.{stripeLength, blockOf, othersGood, othersData}
+use Rattle.stripe.specs.declared.Reading.{Reading}
+use Rattle.stripe.specs.declared.Reading.the-variants.{Refused, Stored, Rebuilt}
+
+-- a buffer after a call: changed where the call is done, as it was where it is refused
+abbrev pub unlessRefused : ℕ → List ℕ → List ℕ → List ℕ
+unlessRefused refusal new old = cond (eqb refusal 0) new old
+
+-- a stripe with a member's block replaced
+abbrev pub withBlock : List ℕ → ℕ → List ℕ → List ℕ
+withBlock bytes member block = sets bytes (blockLength * member) block
+
+-- ---- seal: a whole stripe from its data
+
+unfoldable pub sealRefusal : Array → ℕ → ℕ → ℕ → ℕ
+sealRefusal a stripe dataBytes stripeBytes =
+    after (stripeRefusal a stripe) (refuse (not (eqb dataBytes (dataLength * dataMembers a) && eqb stripeBytes (stripeLength a))) 6 0)
+
+-- a data member's block, from its part of the data
+abbrev pub dataBlock : Array → ℕ → List ℕ → ℕ → List ℕ
+dataBlock a stripe bytes member = tagged a stripe member (part dataLength bytes (indexAt a stripe member))
+
+-- a stripe with the blocks of its data members written, and the parity's block as it was
+unfoldable pub dataWritten : Array → ℕ → List ℕ → List ℕ → List ℕ
+dataWritten a stripe bytes old =
+    joined (table (a .members) (λ m. cond (isParity a stripe m) (blockOf old m) (dataBlock a stripe bytes m)))
+
+-- the parity of the data, and the data that a member gets
+abbrev pub parityOf : Array → List ℕ → List ℕ
+parityOf a bytes = combination dataLength (table (dataMembers a) (part dataLength bytes))
+
+abbrev pub sealedData : Array → ℕ → List ℕ → ℕ → List ℕ
+sealedData a stripe bytes member = cond (isParity a stripe member) (parityOf a bytes) (part dataLength bytes (indexAt a stripe member))
+
+unfoldable pub sealed : Array → ℕ → List ℕ → List ℕ
+sealed a stripe bytes = joined (table (a .members) (λ m. tagged a stripe m (sealedData a stripe bytes m)))
+
+unfoldable pub sealBytes : Array → ℕ → List ℕ → List ℕ → List ℕ
+sealBytes a stripe bytes old = unlessRefused (sealRefusal a stripe (length bytes) (length old)) (sealed a stripe bytes) old
+
+-- ---- read: a block's data, verified; stored, or rebuilt from the other members where the block is bad and they are good
+
+abbrev pub storedGood : Array → ℕ → ℕ → List ℕ → Bool
+storedGood a stripe member bytes = good a stripe member (blockOf bytes member)
+
+-- of the block at a place: refusals 6 and 9, and the data that are served
+unfoldable pub serveRefusal : Array → ℕ → ℕ → List ℕ → ℕ → ℕ
+serveRefusal a stripe member bytes outBytes =
+    refuse (not (eqb (length bytes) (stripeLength a) && eqb outBytes dataLength)) 6
+    (refuse (not (storedGood a stripe member bytes || othersGood a stripe member bytes)) 9 0)
+
+unfoldable pub servedData : Array → ℕ → ℕ → List ℕ → List ℕ
+servedData a stripe member bytes = cond (storedGood a stripe member bytes) (dataOf (blockOf bytes member)) (othersData (a .members) member bytes)
+
+unfoldable pub readRefusal : Array → ℕ → List ℕ → ℕ → ℕ
+readRefusal a block bytes outBytes = after (blockRefusal a block) (serveRefusal a (stripeOf a block) (memberOf a block) bytes outBytes)
+
+unfoldable pub readNumbers : Array → ℕ → List ℕ → ℕ → List ℕ
+readNumbers a block bytes outBytes =
+    answer (readRefusal a block bytes outBytes) (cond (storedGood a (stripeOf a block) (memberOf a block) bytes) 0 1 ∷ [])
+
+abbrev pub readingNumbers : Reading → List ℕ
+readingNumbers (Refused number) = 0 ∷ number ∷ 0 ∷ []
+readingNumbers Stored = 1 ∷ 0 ∷ 0 ∷ []
+readingNumbers Rebuilt = 1 ∷ 0 ∷ 1 ∷ []
+
+unfoldable pub readOut : Array → ℕ → List ℕ → List ℕ → List ℕ
+readOut a block bytes old =
+    unlessRefused (readRefusal a block bytes (length old)) (servedData a (stripeOf a block) (memberOf a block) bytes) old
+
+-- ---- rebuild: a member's block from the others, whatever stands in its place
+
+unfoldable pub rebuildRefusal : Array → ℕ → ℕ → List ℕ → ℕ
+rebuildRefusal a stripe member bytes =
+    after (ownerRefusal a stripe member)
+    (refuse (not (eqb (length bytes) (stripeLength a))) 6 (refuse (not (othersGood a stripe member bytes)) 9 0))
+
+-- the stripe with a member's block made from the others
+unfoldable pub rebuilt : Array → ℕ → ℕ → List ℕ → List ℕ
+rebuilt a stripe member bytes = withBlock bytes member (tagged a stripe member (othersData (a .members) member bytes))
+
+unfoldable pub rebuildBytes : Array → ℕ → ℕ → List ℕ → List ℕ
+rebuildBytes a stripe member bytes = unlessRefused (rebuildRefusal a stripe member bytes) (rebuilt a stripe member bytes) bytes
+
+-- ---- update: a block's data replaced, and the parity brought along; no other member is looked at
+
+-- of the block at a place: refusals 6 and 9, and the stripe with the new data
+unfoldable pub replaceRefusal : Array → ℕ → ℕ → ℕ → List ℕ → ℕ
+replaceRefusal a stripe member newBytes bytes =
+    refuse (not (eqb (length bytes) (stripeLength a) && eqb newBytes dataLength)) 6
+    (refuse (not (storedGood a stripe member bytes && storedGood a stripe (parityMember a stripe) bytes)) 9 0)
+
+unfoldable pub replaced : Array → ℕ → ℕ → List ℕ → List ℕ → List ℕ
+replaced a stripe member new bytes =
+    let parity = parityMember a stripe in
+    let parityData = xors (xors (dataOf (blockOf bytes parity)) (dataOf (blockOf bytes member))) new in
+    withBlock (withBlock bytes member (tagged a stripe member new)) parity (tagged a stripe parity parityData)
+
+unfoldable pub updateRefusal : Array → ℕ → ℕ → List ℕ → ℕ
+updateRefusal a block newBytes bytes = after (blockRefusal a block) (replaceRefusal a (stripeOf a block) (memberOf a block) newBytes bytes)
+
+unfoldable pub updateBytes : Array → ℕ → List ℕ → List ℕ → List ℕ
+updateBytes a block new bytes =
+    unlessRefused (updateRefusal a block (length new) bytes) (replaced a (stripeOf a block) (memberOf a block) new bytes) bytes

@@ -1,0 +1,177 @@
+// The jobs on a whole stripe in memory, over the few steps that they share.
+mod rebuilding;
+mod sealing;
+mod serving;
+mod updating;
+
+pub use rebuilding::rebuild;
+pub use sealing::seal;
+pub use serving::read;
+pub use updating::update;
+ghost use mathlib.Core.Path.{_≡_};
+ghost use Prim.Native.Nat.{_+_, _-_, _*_, _≤_, _<_};
+ghost use mathlib.Core.Bool.{true};
+ghost use lib.ListN.{length, getD, set};
+ghost use lib.Seq.{sets};
+ghost use Rattle.stripe.specs.Tables.{span};
+ghost use Rattle.layout.specs.Arrays.{stripeRefusal};
+ghost use Rattle.layout.specs.Places.{ownerRefusal};
+ghost use Rattle.tag.specs.Tags.{good, tagged};
+ghost use Rattle.stripe.specs.Stripes.{stripeLength, blockOf, saysGood, goodMembers, othersGood, othersData};
+ghost use Rattle.stripe.specs.Jobs.{withBlock};
+use layout::Array;
+use tag::BLOCK;
+use tag::Checked;
+use tag::DATA;
+
+// Bytes of a row: what stays in registers while the members go by.
+const ROW: usize = 64;
+
+// What a verified read says: the block's own data, or data rebuilt from the other members.
+pub enum Reading {
+    Refused(u8),
+    Stored,
+    Rebuilt,
+}
+
+// Copies `src` into `dst` from a place on.
+fn put(dst: &mut [u8], at: usize, src: &[u8])
+    requires { ⌜ at + length (now src) ≤ length (now dst) ⌝ }
+    ensures { λ _. ⌜ now (dst .exit) ≡ sets (now (dst .entry)) at (now (src .entry)) ⌝ }
+{
+    let mut i: usize = 0;
+    while i < src.len() {
+        dst[at + i] = src[i];
+        i += 1;
+    }
+}
+
+// One row of the combined data of all members but `skip`.
+fn row(bytes: &[u8], members: usize, skip: usize, at: usize) -> [u8; 64]
+    requires { ⌜ 520 * members ≤ length (now bytes) ⌝ }
+    requires { ⌜ at + 64 ≤ 512 ⌝ }
+    ensures { λ r. ⌜ r ≡ span at 64 (othersData members skip (now (bytes .entry))) ⌝ }
+{
+    let mut row = [0u8; 64];
+    let mut member: usize = 0;
+    while member < members {
+        if member != skip {
+            let from = BLOCK * member + at;
+            let end = from + ROW;
+            xor::xor_into(&mut row, &bytes[from..end]);
+        }
+        member += 1;
+    }
+    row
+}
+
+// The combined data of all members but `skip`, all of them where there is no such member: one pass over the members, row by row.
+fn combined(bytes: &[u8], members: usize, skip: usize) -> [u8; 512]
+    requires { ⌜ 520 * members ≤ length (now bytes) ⌝ }
+    ensures { λ r. ⌜ r ≡ othersData members skip (now (bytes .entry)) ⌝ }
+{
+    let mut all = [0u8; 512];
+    let mut at: usize = 0;
+    while at < DATA {
+        let row = row(bytes, members, skip, at);
+        put(&mut all, at, &row);
+        at += ROW;
+    }
+    all
+}
+
+// What a scrub finds in a stripe: every member good and parity right; the lowest of `count` bad members; or, with every
+// member good, the lowest place where the members' data do not combine to zero (01 calls such a stripe torn).
+pub enum Verdict {
+    Clean,
+    Bad { member: usize, count: usize },
+    Torn { place: usize },
+}
+
+// A scrub refused, or its verdict.
+pub enum Scrubbed {
+    Refused(u8),
+    Found(Verdict),
+}
+
+// What the quick scrub says of the stored guards: they combine to zero, or to something else.
+pub enum Compared {
+    Refused(u8),
+    Fits,
+    Differs { combination: u16 },
+}
+
+// Whether a check found the block good.
+fn says_good(checked: Checked) -> bool
+    ensures { λ r. ⌜ r ≡ saysGood checked ⌝ }
+{
+    match checked {
+        Checked::Refused(_) => false,
+        Checked::Good => true,
+        Checked::Guard {
+            found: _,
+            expected: _,
+        } => false,
+        Checked::Application {
+            found: _,
+            expected: _,
+        } => false,
+        Checked::Reference {
+            found: _,
+            expected: _,
+        } => false,
+    }
+}
+
+// Whether a member's block is good at its place.
+fn is_good(array: Array, stripe: u64, bytes: &[u8], member: usize) -> bool
+    requires { ⌜ ownerRefusal array stripe member ≡ 0 ⌝ }
+    requires { ⌜ 520 * member + 520 ≤ length (now bytes) ⌝ }
+    ensures { λ r. ⌜ r ≡ good array stripe member (blockOf (now (bytes .entry)) member) ⌝ }
+{
+    let from = BLOCK * member;
+    let end = from + BLOCK;
+    says_good(tag::check(array, stripe, member, &bytes[from..end]))
+}
+
+// Whether a member is good, or is the one left out.
+fn passes(array: Array, stripe: u64, bytes: &[u8], skip: usize, member: usize) -> bool
+    requires { ⌜ ownerRefusal array stripe member ≡ 0 ⌝ }
+    requires { ⌜ 520 * member + 520 ≤ length (now bytes) ⌝ }
+    ensures { λ r. ⌜ r ≡ getD (set (goodMembers array stripe (now (bytes .entry))) skip true) member true ⌝ }
+{
+    if member == skip {
+        return true;
+    }
+    is_good(array, stripe, bytes, member)
+}
+
+// Whether every member but `skip` is good.
+fn others_good(array: Array, stripe: u64, bytes: &[u8], skip: usize) -> bool
+    requires { ⌜ stripeRefusal array stripe ≡ 0 ⌝ }
+    requires { ⌜ length (now bytes) ≡ stripeLength array ⌝ }
+    ensures { λ r. ⌜ r ≡ othersGood array stripe skip (now (bytes .entry)) ⌝ }
+{
+    let members = array.members;
+    let mut member: usize = 0;
+    while member < members {
+        if !passes(array, stripe, bytes, skip, member) {
+            return false;
+        }
+        member += 1;
+    }
+    true
+}
+
+// Writes a block at its place: the data, and the tag due to them there.
+fn write_block(array: Array, stripe: u64, member: usize, content: &[u8], bytes: &mut [u8])
+    requires { ⌜ ownerRefusal array stripe member ≡ 0 ⌝ }
+    requires { ⌜ length (now content) ≡ 512 ⌝ }
+    requires { ⌜ 520 * member + 520 ≤ length (now bytes) ⌝ }
+    ensures { λ _. ⌜ now (bytes .exit) ≡ withBlock (now (bytes .entry)) member (tagged array stripe member (now (content .entry))) ⌝ }
+{
+    let from = BLOCK * member;
+    let tag = tag::tag_bytes(tag::due(array, stripe, member, crc::guard(content)));
+    put(bytes, from, content);
+    put(bytes, from + DATA, &tag);
+}

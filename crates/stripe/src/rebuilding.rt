@@ -1,0 +1,42 @@
+// A member's block made again from the others.
+ghost use mathlib.Core.Path.{_≡_};
+ghost use Prim.Native.Nat.{_+_, _*_, _≤_};
+ghost use lib.ListN.{length};
+ghost use Rattle.stripe.specs.Jobs.{rebuildRefusal, rebuildBytes};
+use crate::combined;
+use crate::others_good;
+use crate::write_block;
+use layout::Array;
+use tag::BLOCK;
+
+// The refusal number of a rebuild: the place's own, the stripe's length, then whether every other member is good.
+fn rebuild_refusal(array: Array, stripe: u64, member: usize, bytes: &[u8]) -> u8
+    ensures { λ r. ⌜ r ≡ rebuildRefusal array stripe member (now (bytes .entry)) ⌝ }
+{
+    let refusal = layout::owner_refusal(array, stripe, member);
+    if refusal != 0 {
+        return refusal;
+    }
+    let members = array.members;
+    if bytes.len() != BLOCK * members {
+        return 6;
+    }
+    if !others_good(array, stripe, bytes, member) {
+        return 9;
+    }
+    0
+}
+
+// Rebuilds a member's block in place: the exclusive-or of the other members' data, with the tag due there.
+pub fn rebuild(array: Array, stripe: u64, member: usize, bytes: &mut [u8]) -> u8
+    ensures { λ r. ⌜ r ≡ rebuildRefusal array stripe member (now (bytes .entry)) ⌝ }
+    ensures { λ _. ⌜ now (bytes .exit) ≡ rebuildBytes array stripe member (now (bytes .entry)) ⌝ }
+{
+    let refusal = rebuild_refusal(array, stripe, member, bytes);
+    if refusal != 0 {
+        return refusal;
+    }
+    let content = combined(bytes, array.members, member);
+    write_block(array, stripe, member, &content, bytes);
+    0
+}
