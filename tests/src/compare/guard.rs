@@ -1,34 +1,27 @@
-//! The guard by long division: the bytes, highest bit first, then sixteen zero bits, divided by the generator.
+//! The guard on runs of many lengths.
 
+use super::Outcome;
 use crate::library;
+use crate::model::guard::{go_on, guard};
 use crate::random::Random;
 
-/// x^16 and the terms of 8BB7h.
-const GENERATOR: u32 = 0x1_8BB7;
 const LONGEST: usize = 4_200;
 const BLOCK: usize = 512;
 const SHORT: usize = 64;
 const RANDOM: usize = 80_000;
 
-pub fn guard(bytes: &[u8]) -> u16 {
-    let mut rest: u32 = 0;
-    for byte in bytes.iter().chain(&[0, 0]) {
-        for place in (0..8).rev() {
-            rest = rest << 1 | u32::from(byte >> place & 1);
-            if rest >> 16 == 1 {
-                rest ^= GENERATOR;
-            }
-        }
-    }
-    rest as u16
-}
-
 /// One input: counted, or the difference.
-fn same(what: &str, bytes: &[u8], count: &mut u64) -> Result<(), String> {
+fn same(what: &str, bytes: &[u8], count: &mut u64) -> Outcome<()> {
     let (model, library) = (guard(bytes), library::guard(bytes));
     if model != library {
         return Err(format!(
             "{what}, {} bytes: the model has {model:04X}, the library {library:04X}",
+            bytes.len()
+        ));
+    }
+    if model != go_on(0, bytes) {
+        return Err(format!(
+            "{what}, {} bytes: the model is at odds with itself",
             bytes.len()
         ));
     }
@@ -37,7 +30,7 @@ fn same(what: &str, bytes: &[u8], count: &mut u64) -> Result<(), String> {
 }
 
 /// Each run of `length` bytes that has a single bit.
-fn single_bits(length: usize, count: &mut u64) -> Result<(), String> {
+fn single_bits(length: usize, count: &mut u64) -> Outcome<()> {
     let mut bytes = vec![0; length];
     for bit in 0..8 * length {
         bytes[bit / 8] = 0x80 >> (bit % 8);
@@ -47,7 +40,7 @@ fn single_bits(length: usize, count: &mut u64) -> Result<(), String> {
     Ok(())
 }
 
-pub fn compare(random: &mut Random) -> Result<String, String> {
+pub fn compare(random: &mut Random) -> Outcome<String> {
     let zeros = [0x00; LONGEST];
     let ones = [0xFF; LONGEST];
     let mut bytes = [0; LONGEST];

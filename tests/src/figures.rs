@@ -1,0 +1,207 @@
+//! The bench figures of paper 01, and the guards that SBC-3 publishes, run through the model alone.
+
+use crate::model::guard::{go_on, guard};
+use crate::model::layout::{Array, Owner, Place};
+use crate::model::scan::History;
+use crate::model::stripe::{self, BLOCK, Checked, DATA, Verdict};
+use crate::random::Random;
+use std::fmt::Debug;
+
+/// Figures that were right, or the first that was not.
+struct Figures {
+    right: u32,
+}
+
+impl Figures {
+    fn due<T: PartialEq + Debug>(&mut self, what: &str, found: T, due: T) -> Result<(), String> {
+        if found != due {
+            return Err(format!("{what}: the model has {found:X?}, due is {due:X?}"));
+        }
+        self.right += 1;
+        Ok(())
+    }
+
+    fn guards(&mut self) -> Result<(), String> {
+        let rising: Vec<u8> = (0x00..=0x1F).collect();
+        let falling: Vec<u8> = (0xE0..=0xFF).rev().collect();
+        let ones_first = [&[0xFF; 2][..], &[0x00; 30]].concat();
+        let rows: [(&[u8], u16); 13] = [
+            (&[], 0x0000),
+            (&[0x00], 0x0000),
+            (&[0x01], 0x8BB7),
+            (&[0x02], 0x9CD9),
+            (&[0x03], 0x176E),
+            (&[0x01, 0x8B, 0xB7], 0x0000),
+            (&[0x01, 0x8B, 0xB6], 0x8BB7),
+            (&[0x00; 32], 0x0000),
+            (&[0xFF; 32], 0xA293),
+            (&rising, 0x0224),
+            (&ones_first, 0x21B8),
+            (&falling, 0xA0B7),
+            (b"123456789", 0xD0DB),
+        ];
+        for (bytes, due) in rows {
+            self.due("guard", guard(bytes), due)?;
+            self.due("guard by single bytes", go_on(0, bytes), due)?;
+        }
+        self.due(
+            "combination of 9, 4, 8, C",
+            stripe::quick_scrub(&[9, 4, 8, 0xC]),
+            Ok(9),
+        )
+    }
+
+    fn places(&mut self) -> Result<(), String> {
+        let at = |stripe, member| Ok(Place { stripe, member });
+        let five = array(5, 268_435_456);
+        for (block, due) in [
+            (0, at(0, 1)),
+            (3, at(0, 4)),
+            (4, at(1, 0)),
+            (5, at(1, 2)),
+            (65_535, at(16_383, 4)),
+            (65_536, at(16_384, 0)),
+        ] {
+            self.due("place, 5 members", five.place(block), due)?;
+        }
+        self.due(
+            "tag of block 65,536",
+            &stripe::due(&five, 16_384, 0, 0)[4..],
+            &[0, 1, 0, 0],
+        )?;
+        let parity = Owner::Parity {
+            lowest: 0x0004_0000,
+        };
+        self.due("parity of stripe 65,536", five.owner(65_536, 1), Ok(parity))?;
+        self.due(
+            "its tag",
+            &stripe::due(&five, 65_536, 1, 0)[2..],
+            &[0x80, 7, 0, 4, 0, 0],
+        )?;
+        let largest = array(16, 268_435_456);
+        self.due(
+            "last block",
+            largest.place(4_026_531_839),
+            at(268_435_455, 14),
+        )?;
+        self.due("block past the last", largest.place(4_026_531_840), Err(3))?;
+        self.due("2 members", array(2, 1).place(0), Err(1))?;
+        self.due("17 members", array(17, 1).place(0), Err(1))
+    }
+
+    fn sealed_stripe(&mut self) -> Result<(), String> {
+        let three = array(3, 1);
+        let sealed = sealed();
+        self.due("parity", &sealed[508..DATA], &[0, 0, 0, 3])?;
+        for (member, tag) in [
+            (0, [0x17, 0x6E, 0x80, 7, 0, 0, 0, 0]),
+            (1, [0x8B, 0xB7, 0x00, 7, 0, 0, 0, 0]),
+            (2, [0x9C, 0xD9, 0x00, 7, 0, 0, 0, 1]),
+        ] {
+            let block = &sealed[stripe::span(member)];
+            self.due("tag", &block[DATA..], &tag)?;
+            self.due(
+                "check",
+                stripe::check(&three, 0, member, block),
+                Ok(Checked::Good),
+            )?;
+        }
+        self.due(
+            "scrub",
+            stripe::scrub(&three, 0, &sealed),
+            Ok(Verdict::Clean),
+        )?;
+        let updated = stripe::update(&three, 0, &[0; DATA], &sealed).expect("good blocks");
+        self.due(
+            "updated guards",
+            stripe::stored_guards(&updated),
+            vec![0x9CD9, 0, 0x9CD9],
+        )?;
+        self.due(
+            "updated scrub",
+            stripe::scrub(&three, 0, &updated),
+            Ok(Verdict::Clean),
+        )
+    }
+
+    fn torn_stripes(&mut self) -> Result<(), String> {
+        let three = array(3, 1);
+        for (ending, combination) in [([0x01, 0x8B, 0xB7], 0x0000), ([0x01, 0x8B, 0xB6], 0x8BB7)] {
+            let mut parity = [0; DATA];
+            parity[DATA - 3..].copy_from_slice(&ending);
+            let data = [parity, [0; DATA], [0; DATA]];
+            let tagged = |member: usize| stripe::tagged(&three, 0, member, &data[member]);
+            let bytes: Vec<u8> = (0..3).flat_map(tagged).collect();
+            let quick = stripe::quick_scrub(&stripe::stored_guards(&bytes));
+            self.due(
+                "scrub",
+                stripe::scrub(&three, 0, &bytes),
+                Ok(Verdict::Torn { place: 509 }),
+            )?;
+            self.due("quick scrub", quick, Ok(combination))?;
+            let mut lost = bytes.clone();
+            lost[stripe::span(1)].fill(0);
+            let rebuilt = stripe::rebuild(&three, 0, 1, &lost).expect("good blocks");
+            self.due(
+                "rebuilt, torn",
+                &rebuilt[stripe::span(1)][DATA - 3..DATA],
+                &ending,
+            )?;
+            self.due(
+                "its scrub",
+                stripe::scrub(&three, 0, &rebuilt),
+                Ok(Verdict::Clean),
+            )?;
+        }
+        Ok(())
+    }
+
+    fn pieces(&mut self) -> Result<(), String> {
+        let mut history = History::open(array(3, 1), 0);
+        let sealed = sealed();
+        self.due("finish too early", history.finish(), Err(8))?;
+        self.due(
+            "piece of 520",
+            history.piece(1, &sealed[stripe::span(1)]),
+            Ok(()),
+        )?;
+        self.due("then of 1", history.piece(1, &[0]), Err(7))?;
+        self.due("then of 0", history.piece(1, &[]), Ok(()))?;
+        self.due("piece for member 3", history.piece(3, &[]), Err(5))?;
+        for byte in &sealed[..BLOCK] {
+            self.due("piece of 1", history.piece(0, &[*byte]), Ok(()))?;
+        }
+        self.due(
+            "last piece",
+            history.piece(2, &sealed[stripe::span(2)]),
+            Ok(()),
+        )?;
+        self.due("finish", history.finish(), Ok(Verdict::Clean))
+    }
+}
+
+fn array(members: usize, stripes: u64) -> Array {
+    Array {
+        members,
+        stripes,
+        volume: 7,
+    }
+}
+
+/// The bench's stripe: zeros, but for the last bytes 01 and 02.
+fn sealed() -> Vec<u8> {
+    let mut data = [0; 2 * DATA];
+    data[DATA - 1] = 1;
+    data[2 * DATA - 1] = 2;
+    stripe::seal(&array(3, 1), 0, &data, &[0; 3 * BLOCK]).expect("numbers that fit")
+}
+
+pub fn check(_: &mut Random) -> Result<String, String> {
+    let mut figures = Figures { right: 0 };
+    figures.guards()?;
+    figures.places()?;
+    figures.sealed_stripe()?;
+    figures.torn_stripes()?;
+    figures.pieces()?;
+    Ok(format!("{} right in the model itself", figures.right))
+}

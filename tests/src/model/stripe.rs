@@ -1,0 +1,235 @@
+//! A stripe in memory: the tags due on its blocks, and the jobs on it. A job gives what it makes; a refused one makes nothing.
+
+use super::Answer;
+use super::guard;
+use super::layout::{Array, Owner};
+use std::ops::Range;
+
+pub const DATA: usize = 512;
+pub const BLOCK: usize = 520;
+
+#[derive(Clone, Copy, Debug, PartialEq)]
+pub enum Field {
+    Guard,
+    Application,
+    Reference,
+}
+
+#[derive(Clone, Copy, Debug, PartialEq)]
+pub enum Checked {
+    Good,
+    Wrong {
+        field: Field,
+        found: u32,
+        expected: u32,
+    },
+}
+
+/// The data of a verified read, and whether the other members had to give them.
+#[derive(Clone, Debug, PartialEq)]
+pub struct Read {
+    pub rebuilt: bool,
+    pub data: Vec<u8>,
+}
+
+#[derive(Clone, Copy, Debug, PartialEq)]
+pub enum Verdict {
+    Clean,
+    Bad { member: usize, count: usize },
+    Torn { place: usize },
+}
+
+/// The bytes of a member in a stripe.
+pub fn span(member: usize) -> Range<usize> {
+    member * BLOCK..(member + 1) * BLOCK
+}
+
+fn sized(bytes: &[u8], length: usize) -> Answer<()> {
+    if bytes.len() == length {
+        Ok(())
+    } else {
+        Err(6)
+    }
+}
+
+/// The byte by byte exclusive-or of the data of some blocks.
+pub fn combine<'a>(blocks: impl Iterator<Item = &'a [u8]>) -> Vec<u8> {
+    let mut sum = vec![0; DATA];
+    for block in blocks {
+        for (place, byte) in block[..DATA].iter().enumerate() {
+            sum[place] ^= byte;
+        }
+    }
+    sum
+}
+
+/// The tag due at a place where the data have this guard.
+pub fn due(array: &Array, stripe: u64, member: usize, guard: u16) -> [u8; 8] {
+    let (kind, number) = match array.row(stripe)[member] {
+        Owner::Parity { lowest } => (0x80, lowest),
+        Owner::Data { block } => (0x00, block),
+    };
+    let [g0, g1] = guard.to_be_bytes();
+    let reference = u32::try_from(number).expect("block numbers have 32 bits");
+    let [r0, r1, r2, r3] = reference.to_be_bytes();
+    [g0, g1, kind, array.volume, r0, r1, r2, r3]
+}
+
+/// Data with the tag that is due.
+pub fn tagged(array: &Array, stripe: u64, member: usize, data: &[u8]) -> Vec<u8> {
+    let tag = due(array, stripe, member, guard::go_on(0, data));
+    [data, &tag[..]].concat()
+}
+
+fn number(bytes: &[u8]) -> u32 {
+    bytes.iter().fold(0, |n, byte| n << 8 | u32::from(*byte))
+}
+
+fn first_wrong(array: &Array, stripe: u64, member: usize, block: &[u8]) -> Checked {
+    let whole = tagged(array, stripe, member, &block[..DATA]);
+    let fields = [
+        (Field::Guard, 512..514),
+        (Field::Application, 514..516),
+        (Field::Reference, 516..520),
+    ];
+    for (field, bytes) in fields {
+        let (found, expected) = (number(&block[bytes.clone()]), number(&whole[bytes]));
+        if found != expected {
+            return Checked::Wrong {
+                field,
+                found,
+                expected,
+            };
+        }
+    }
+    Checked::Good
+}
+
+fn is_good(array: &Array, stripe: u64, bytes: &[u8], member: usize) -> bool {
+    first_wrong(array, stripe, member, &bytes[span(member)]) == Checked::Good
+}
+
+fn others(array: &Array, member: usize) -> impl Iterator<Item = usize> + use<> {
+    (0..array.members).filter(move |other| *other != member)
+}
+
+/// The exclusive-or of all members but one, if they are good.
+fn from_others(array: &Array, stripe: u64, bytes: &[u8], member: usize) -> Answer<Vec<u8>> {
+    if !others(array, member).all(|other| is_good(array, stripe, bytes, other)) {
+        return Err(9);
+    }
+    Ok(combine(
+        others(array, member).map(|other| &bytes[span(other)]),
+    ))
+}
+
+pub fn check(array: &Array, stripe: u64, member: usize, block: &[u8]) -> Answer<Checked> {
+    array.place_fits(stripe, member)?;
+    sized(block, BLOCK)?;
+    Ok(first_wrong(array, stripe, member, block))
+}
+
+/// The whole stripe over `data`; `bytes` is where it goes.
+pub fn seal(array: &Array, stripe: u64, data: &[u8], bytes: &[u8]) -> Answer<Vec<u8>> {
+    array.stripe_fits(stripe)?;
+    sized(data, array.data_members() * DATA)?;
+    sized(bytes, array.members * BLOCK)?;
+    let parity = combine(data.chunks(DATA));
+    let mut blocks = data.chunks(DATA);
+    let mut whole = Vec::new();
+    for (member, owner) in array.row(stripe).iter().enumerate() {
+        let data = match owner {
+            Owner::Parity { .. } => &parity,
+            Owner::Data { .. } => blocks.next().expect("a block for each data member"),
+        };
+        whole.extend(tagged(array, stripe, member, data));
+    }
+    Ok(whole)
+}
+
+/// What the block holds; `out` is where it goes.
+pub fn read(array: &Array, block: u64, bytes: &[u8], out: &[u8]) -> Answer<Read> {
+    let place = array.place(block)?;
+    sized(bytes, array.members * BLOCK)?;
+    sized(out, DATA)?;
+    if is_good(array, place.stripe, bytes, place.member) {
+        let data = bytes[span(place.member)][..DATA].to_vec();
+        return Ok(Read {
+            rebuilt: false,
+            data,
+        });
+    }
+    let data = from_others(array, place.stripe, bytes, place.member)?;
+    Ok(Read {
+        rebuilt: true,
+        data,
+    })
+}
+
+/// The stripe with one member made from the others.
+pub fn rebuild(array: &Array, stripe: u64, member: usize, bytes: &[u8]) -> Answer<Vec<u8>> {
+    array.place_fits(stripe, member)?;
+    sized(bytes, array.members * BLOCK)?;
+    let data = from_others(array, stripe, bytes, member)?;
+    let mut whole = bytes.to_vec();
+    whole[span(member)].copy_from_slice(&tagged(array, stripe, member, &data));
+    Ok(whole)
+}
+
+/// The stripe with `data` for a block, and its parity brought along.
+pub fn update(array: &Array, block: u64, data: &[u8], bytes: &[u8]) -> Answer<Vec<u8>> {
+    let place = array.place(block)?;
+    sized(data, DATA)?;
+    sized(bytes, array.members * BLOCK)?;
+    let parity = array.parity_member(place.stripe);
+    if ![place.member, parity]
+        .iter()
+        .all(|member| is_good(array, place.stripe, bytes, *member))
+    {
+        return Err(9);
+    }
+    let old = [&bytes[span(parity)], &bytes[span(place.member)], data];
+    let sum = combine(old.into_iter());
+    let mut whole = bytes.to_vec();
+    for (member, data) in [(place.member, data), (parity, &sum)] {
+        whole[span(member)].copy_from_slice(&tagged(array, place.stripe, member, data));
+    }
+    Ok(whole)
+}
+
+/// The verdict on members of which some are bad, and on what their data combine to.
+pub fn verdict(bad: &[usize], sum: &[u8]) -> Verdict {
+    if let [member, ..] = *bad {
+        let count = bad.len();
+        return Verdict::Bad { member, count };
+    }
+    match sum.iter().position(|byte| *byte != 0) {
+        Some(place) => Verdict::Torn { place },
+        None => Verdict::Clean,
+    }
+}
+
+pub fn scrub(array: &Array, stripe: u64, bytes: &[u8]) -> Answer<Verdict> {
+    array.stripe_fits(stripe)?;
+    sized(bytes, array.members * BLOCK)?;
+    let bad: Vec<usize> = (0..array.members)
+        .filter(|member| !is_good(array, stripe, bytes, *member))
+        .collect();
+    Ok(verdict(&bad, &combine(bytes.chunks(BLOCK))))
+}
+
+/// What the guards combine to: they fit where that is zero.
+pub fn quick_scrub(guards: &[u16]) -> Answer<u16> {
+    if !(3..=16).contains(&guards.len()) {
+        return Err(1);
+    }
+    Ok(guards.iter().fold(0, |sum, guard| sum ^ guard))
+}
+
+/// The guards that stand in the blocks' tags.
+pub fn stored_guards(bytes: &[u8]) -> Vec<u16> {
+    bytes
+        .chunks(BLOCK)
+        .map(|block| u16::from_be_bytes([block[512], block[513]]))
+        .collect()
+}
