@@ -1,4 +1,58 @@
-//! The calls of include/irumbolai.h.
+//! The calls of include/irumbolai.h, over lent buffers.
+
+use crate::lent::Lent;
+use crate::model::layout::Array;
+
+#[repr(C)]
+#[derive(Clone, Copy, Debug, PartialEq)]
+pub struct Place {
+    pub refusal: u32,
+    pub member: u32,
+    pub stripe: u64,
+}
+
+#[repr(C)]
+#[derive(Clone, Copy, Debug, PartialEq)]
+pub struct Owner {
+    pub refusal: u32,
+    pub parity: u32,
+    pub block: u64,
+}
+
+/// Field 0 is good, 1 the guard, 2 the application tag, 3 the reference tag.
+#[repr(C)]
+#[derive(Clone, Copy, Debug, PartialEq)]
+pub struct Check {
+    pub refusal: u32,
+    pub field: u32,
+    pub found: u32,
+    pub expected: u32,
+}
+
+#[repr(C)]
+#[derive(Clone, Copy, Debug, PartialEq)]
+pub struct Read {
+    pub refusal: u32,
+    pub rebuilt: u32,
+}
+
+/// Kind 0 is clean, 1 bad (`first` is a member), 2 torn (`first` is a place).
+#[repr(C)]
+#[derive(Clone, Copy, Debug, PartialEq)]
+pub struct Verdict {
+    pub refusal: u32,
+    pub kind: u32,
+    pub first: u32,
+    pub count: u32,
+}
+
+#[repr(C)]
+#[derive(Clone, Copy, Debug, PartialEq)]
+pub struct Quick {
+    pub refusal: u32,
+    pub differs: u32,
+    pub combination: u32,
+}
 
 #[repr(C)]
 #[derive(Clone, Copy, Debug, PartialEq)]
@@ -24,13 +78,175 @@ impl Scan {
     };
 }
 
+#[repr(C)]
+#[derive(Clone, Copy, Debug, PartialEq)]
+pub struct Taken {
+    pub refusal: u32,
+    pub state: Scan,
+}
+
 mod c {
+    use super::{Check, Owner, Place, Quick, Read, Scan, Taken, Verdict};
+
+    #[rustfmt::skip]
     unsafe extern "C" {
         pub fn irumbolai_guard(bytes: *const u8, length: usize) -> u16;
+        pub fn irumbolai_place(members: usize, stripes: u64, volume: u8, block: u64) -> Place;
+        pub fn irumbolai_owner(members: usize, stripes: u64, volume: u8, stripe: u64, member: usize) -> Owner;
+        pub fn irumbolai_check(members: usize, stripes: u64, volume: u8, stripe: u64, member: usize, block: *const u8, length: usize) -> Check;
+        pub fn irumbolai_seal(members: usize, stripes: u64, volume: u8, stripe: u64, data: *const u8, data_length: usize, bytes: *mut u8, length: usize) -> u32;
+        pub fn irumbolai_read(members: usize, stripes: u64, volume: u8, block: u64, bytes: *const u8, length: usize, out: *mut u8, out_length: usize) -> Read;
+        pub fn irumbolai_rebuild(members: usize, stripes: u64, volume: u8, stripe: u64, member: usize, bytes: *mut u8, length: usize) -> u32;
+        pub fn irumbolai_update(members: usize, stripes: u64, volume: u8, block: u64, data: *const u8, data_length: usize, bytes: *mut u8, length: usize) -> u32;
+        pub fn irumbolai_scrub(members: usize, stripes: u64, volume: u8, stripe: u64, bytes: *const u8, length: usize) -> Verdict;
+        pub fn irumbolai_quick_scrub(guards: *const u16, count: usize) -> Quick;
+        pub fn irumbolai_start(members: usize, stripes: u64, volume: u8, stripe: u64, work: *mut u8, work_length: usize) -> Taken;
+        pub fn irumbolai_piece(state: Scan, member: usize, bytes: *const u8, length: usize, work: *mut u8, work_length: usize) -> Taken;
+        pub fn irumbolai_finish(state: Scan, work: *const u8, work_length: usize) -> Verdict;
     }
 }
 
+// SAFETY, for every call: each pointer comes with the length of its own buffer, which is lent for the call alone,
+// and is not const only where the header lets the call write.
+
 pub fn guard(bytes: &[u8]) -> u16 {
-    // SAFETY: the pointer and the length are those of a slice, which the call only reads.
     unsafe { c::irumbolai_guard(bytes.as_ptr(), bytes.len()) }
+}
+
+pub fn place(array: &Array, block: u64) -> Place {
+    let Array {
+        members,
+        stripes,
+        volume,
+    } = *array;
+    unsafe { c::irumbolai_place(members, stripes, volume, block) }
+}
+
+pub fn owner(array: &Array, stripe: u64, member: usize) -> Owner {
+    let Array {
+        members,
+        stripes,
+        volume,
+    } = *array;
+    unsafe { c::irumbolai_owner(members, stripes, volume, stripe, member) }
+}
+
+pub fn check(array: &Array, stripe: u64, member: usize, block: &Lent<u8>) -> Check {
+    let Array {
+        members,
+        stripes,
+        volume,
+    } = *array;
+    let (pointer, length) = (block.pointer(), block.length());
+    unsafe { c::irumbolai_check(members, stripes, volume, stripe, member, pointer, length) }
+}
+
+pub fn seal(array: &Array, stripe: u64, data: &Lent<u8>, bytes: &mut Lent<u8>) -> u32 {
+    let Array {
+        members,
+        stripes,
+        volume,
+    } = *array;
+    let (from, from_length) = (data.pointer(), data.length());
+    let (to, to_length) = (bytes.pointer_mut(), bytes.length());
+    unsafe {
+        c::irumbolai_seal(
+            members,
+            stripes,
+            volume,
+            stripe,
+            from,
+            from_length,
+            to,
+            to_length,
+        )
+    }
+}
+
+pub fn read(array: &Array, block: u64, bytes: &Lent<u8>, out: &mut Lent<u8>) -> Read {
+    let Array {
+        members,
+        stripes,
+        volume,
+    } = *array;
+    let (from, from_length) = (bytes.pointer(), bytes.length());
+    let (to, to_length) = (out.pointer_mut(), out.length());
+    unsafe {
+        c::irumbolai_read(
+            members,
+            stripes,
+            volume,
+            block,
+            from,
+            from_length,
+            to,
+            to_length,
+        )
+    }
+}
+
+pub fn rebuild(array: &Array, stripe: u64, member: usize, bytes: &mut Lent<u8>) -> u32 {
+    let Array {
+        members,
+        stripes,
+        volume,
+    } = *array;
+    let (to, to_length) = (bytes.pointer_mut(), bytes.length());
+    unsafe { c::irumbolai_rebuild(members, stripes, volume, stripe, member, to, to_length) }
+}
+
+pub fn update(array: &Array, block: u64, data: &Lent<u8>, bytes: &mut Lent<u8>) -> u32 {
+    let Array {
+        members,
+        stripes,
+        volume,
+    } = *array;
+    let (from, from_length) = (data.pointer(), data.length());
+    let (to, to_length) = (bytes.pointer_mut(), bytes.length());
+    unsafe {
+        c::irumbolai_update(
+            members,
+            stripes,
+            volume,
+            block,
+            from,
+            from_length,
+            to,
+            to_length,
+        )
+    }
+}
+
+pub fn scrub(array: &Array, stripe: u64, bytes: &Lent<u8>) -> Verdict {
+    let Array {
+        members,
+        stripes,
+        volume,
+    } = *array;
+    let (pointer, length) = (bytes.pointer(), bytes.length());
+    unsafe { c::irumbolai_scrub(members, stripes, volume, stripe, pointer, length) }
+}
+
+pub fn quick_scrub(guards: &Lent<u16>) -> Quick {
+    unsafe { c::irumbolai_quick_scrub(guards.pointer(), guards.length()) }
+}
+
+pub fn start(array: &Array, stripe: u64, work: &mut Lent<u8>) -> Taken {
+    let Array {
+        members,
+        stripes,
+        volume,
+    } = *array;
+    let (to, to_length) = (work.pointer_mut(), work.length());
+    unsafe { c::irumbolai_start(members, stripes, volume, stripe, to, to_length) }
+}
+
+pub fn piece(state: Scan, member: usize, bytes: &Lent<u8>, work: &mut Lent<u8>) -> Taken {
+    let (from, from_length) = (bytes.pointer(), bytes.length());
+    let (to, to_length) = (work.pointer_mut(), work.length());
+    unsafe { c::irumbolai_piece(state, member, from, from_length, to, to_length) }
+}
+
+pub fn finish(state: Scan, work: &Lent<u8>) -> Verdict {
+    unsafe { c::irumbolai_finish(state, work.pointer(), work.length()) }
 }

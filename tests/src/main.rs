@@ -1,11 +1,12 @@
 //! A second program for the proved library: a model, written from the standard and the rules and not from the
 //! proved code, and comparisons of the two on many inputs.
 
-// What is not yet compared leaves some of the model unused.
-#![allow(dead_code)]
+// A part that is not yet compared leaves some of the model unused.
+#![cfg_attr(not(feature = "scan"), allow(dead_code))]
 
 mod compare;
 mod figures;
+mod lent;
 mod library;
 mod model;
 mod random;
@@ -19,6 +20,14 @@ type Comparison = fn(&mut Random) -> Result<String, String>;
 const PARTS: &[(&str, Comparison)] = &[
     ("figures", figures::check),
     ("guard", compare::guard::compare),
+    #[cfg(feature = "layout")]
+    ("layout", compare::layout::compare),
+    #[cfg(feature = "stripe")]
+    ("stripe", compare::stripe::compare),
+    #[cfg(feature = "scrub")]
+    ("scrub", compare::scrub::compare),
+    #[cfg(feature = "scan")]
+    ("scan", compare::scan::compare),
 ];
 
 fn main() -> ExitCode {

@@ -1,6 +1,63 @@
 //! Comparisons of the library with the model.
 
+pub mod cases;
 pub mod guard;
+pub mod layout;
+pub mod scan;
+pub mod scrub;
+pub mod stripe;
+mod tally;
+
+use crate::library;
+use crate::model::Answer;
+use crate::model::stripe::Verdict;
+use std::fmt::Debug;
+use tally::Tally;
 
 /// What was compared, or the first difference.
 pub type Outcome<T> = Result<T, String>;
+
+/// The two answers are the same.
+fn same<T: PartialEq + Debug>(model: T, library: T) -> Outcome<()> {
+    if model == library {
+        return Ok(());
+    }
+    Err(format!("the model has {model:?}, the library {library:?}"))
+}
+
+/// The refusal number of an answer: 0 where it is done.
+fn refusal<T>(answer: &Answer<T>) -> u32 {
+    answer.as_ref().err().copied().unwrap_or(0)
+}
+
+fn verdict_numbers(answer: &Answer<Verdict>) -> library::Verdict {
+    let (kind, first, count) = match *answer {
+        Ok(Verdict::Clean) | Err(_) => (0, 0, 0),
+        Ok(Verdict::Bad { member, count }) => (1, member, count),
+        Ok(Verdict::Torn { place }) => (2, place, 0),
+    };
+    library::Verdict {
+        refusal: refusal(answer),
+        kind,
+        first: first as u32,
+        count: count as u32,
+    }
+}
+
+/// The name of a verdict, for the tally.
+fn verdict_name(answer: &Answer<Verdict>) -> &'static str {
+    match answer {
+        Ok(Verdict::Clean) => "clean",
+        Ok(Verdict::Bad { .. }) => "bad",
+        Ok(Verdict::Torn { .. }) => "torn",
+        Err(number) => tally::refused(*number),
+    }
+}
+
+/// The name of an answer that is done in one way only.
+fn done_name<T>(answer: &Answer<T>) -> &'static str {
+    match answer {
+        Ok(_) => "done",
+        Err(number) => tally::refused(*number),
+    }
+}

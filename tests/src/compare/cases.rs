@@ -1,0 +1,315 @@
+//! What to compare on: arrays and their stripes, good and damaged, and numbers and lengths that must be refused.
+
+use crate::model::guard;
+use crate::model::layout::{Array, Owner};
+use crate::model::stripe::{self, BLOCK, DATA};
+use crate::random::Random;
+
+#[rustfmt::skip]
+pub const STRIPES: [u64; 10] = [1, 2, 3, 7, 100, 65_535, 65_536, 65_537, 268_435_455, 268_435_456];
+
+/// Numbers of stripes and of members that are refused; some are fit if they are cut to fewer bits.
+pub const FAR_STRIPES: [u64; 6] = [0, 268_435_457, 1 << 32, (1 << 32) + 1, 1 << 63, u64::MAX];
+#[rustfmt::skip]
+pub const FAR_MEMBERS: [usize; 11] = [0, 1, 2, 17, 18, 255, 256, 259, 65_539, (1 << 32) + 5, usize::MAX];
+
+pub fn array(random: &mut Random) -> Array {
+    let stripes = match random.below(2) {
+        0 => random.pick(&STRIPES),
+        _ => random.between(1, 268_435_456),
+    };
+    Array {
+        members: random.between(3, 16) as usize,
+        stripes,
+        volume: random.next() as u8,
+    }
+}
+
+pub fn stripe_of(array: &Array, random: &mut Random) -> u64 {
+    let last = array.stripes - 1;
+    match random.below(3) {
+        0 => random.pick(&[0, last, last / 2, last.min(65_535), last.min(65_536)]),
+        _ => random.between(0, last),
+    }
+}
+
+/// Numbers of an array, now and then refused.
+pub fn any_array(random: &mut Random) -> Array {
+    let mut array = array(random);
+    if random.one_in(6) {
+        array.members = random.pick(&FAR_MEMBERS);
+    }
+    if random.one_in(6) {
+        array.stripes = random.pick(&FAR_STRIPES);
+    }
+    array
+}
+
+/// A number, now and then at or past the end.
+pub fn any_below(end: u64, random: &mut Random) -> u64 {
+    if end == 0 || random.one_in(5) {
+        let far = [end, end + 1, end + 65_536, end + (1 << 32), u64::MAX];
+        return random.pick(&far);
+    }
+    random.between(0, end - 1)
+}
+
+pub fn any_stripe(array: &Array, random: &mut Random) -> u64 {
+    any_below(array.stripes.min(1 << 60), random)
+}
+
+pub fn any_block(array: &Array, random: &mut Random) -> u64 {
+    let data = (array.members as u64).clamp(1, 17) - 1;
+    any_below(array.stripes.min(1 << 48) * data, random)
+}
+
+pub fn any_member(array: &Array, random: &mut Random) -> usize {
+    any_below(array.members.min(300) as u64, random) as usize
+}
+
+/// A length, now and then not the one that is due.
+pub fn any_length(due: usize, random: &mut Random) -> usize {
+    if random.one_in(4) {
+        let less = [1, DATA, BLOCK, due].map(|less| due.saturating_sub(less));
+        let more = [1, DATA, BLOCK, due].map(|more| due + more);
+        return random.pick(&[less, more].concat());
+    }
+    due
+}
+
+/// The bytes of a stripe of an array, now and then too few or too many.
+pub fn any_stripe_bytes(array: &Array, stripe: u64, random: &mut Random) -> Vec<u8> {
+    let length = any_length(array.members.min(20) * BLOCK, random);
+    if array.stripe_fits(stripe).is_err() || length != array.members * BLOCK {
+        return random.bytes(length);
+    }
+    let mut case = Case::sealed(*array, stripe, random);
+    if random.one_in(2) {
+        case.damage(random);
+    }
+    case.bytes
+}
+
+/// A stripe in memory.
+pub struct Case {
+    pub array: Array,
+    pub stripe: u64,
+    /// What was sealed.
+    pub data: Vec<u8>,
+    pub bytes: Vec<u8>,
+}
+
+/// Data of `blocks` blocks: random, all alike, or zeros with a few other bytes.
+fn data(blocks: usize, random: &mut Random) -> Vec<u8> {
+    match random.below(4) {
+        0 => vec![random.pick(&[0x00, 0xFF, 0x80]); blocks * DATA],
+        1 => {
+            let mut data = vec![0; blocks * DATA];
+            for _ in 0..random.below(5) {
+                let place = random.below(data.len());
+                data[place] = random.next() as u8;
+            }
+            data
+        }
+        _ => random.bytes(blocks * DATA),
+    }
+}
+
+impl Case {
+    pub fn sealed(array: Array, stripe: u64, random: &mut Random) -> Self {
+        let data = data(array.data_members(), random);
+        let room = vec![0; array.members * BLOCK];
+        let bytes = stripe::seal(&array, stripe, &data, &room).expect("a fit array and stripe");
+        Case {
+            array,
+            stripe,
+            data,
+            bytes,
+        }
+    }
+
+    /// A stripe that is good, or damaged once or several times.
+    pub fn any(array: Array, stripe: u64, random: &mut Random) -> Self {
+        let mut case = Case::sealed(array, stripe, random);
+        for _ in 0..random.pick(&[0, 1, 1, 1, 1, 2, 2, 3, 5]) {
+            case.damage(random);
+        }
+        case
+    }
+
+    pub fn damage(&mut self, random: &mut Random) {
+        let member = random.below(self.array.members);
+        random.pick(&DAMAGES)(self, member, random);
+    }
+
+    fn block(&mut self, member: usize) -> &mut [u8] {
+        &mut self.bytes[stripe::span(member)]
+    }
+
+    /// A member's data as they are, with the tag due at a place that may be another.
+    fn tag_as(&mut self, array: Array, stripe: u64, member: usize, place: usize) {
+        let block = self.block(member);
+        let tagged = stripe::tagged(&array, stripe, place, &block[..DATA]);
+        block.copy_from_slice(&tagged);
+    }
+
+    /// A member's tag made due again, so that changed data make the stripe torn.
+    fn tag_again(&mut self, member: usize) {
+        self.tag_as(self.array, self.stripe, member, member);
+    }
+}
+
+type Damage = fn(&mut Case, usize, &mut Random);
+
+const DAMAGES: [Damage; 21] = [
+    flip,
+    flip,
+    guard_field,
+    kind,
+    volume,
+    reference,
+    escape,
+    swap,
+    shift,
+    other_stripe,
+    far_stripe,
+    other_member,
+    other_volume,
+    torn,
+    torn,
+    torn_unnoticed,
+    fields_reversed,
+    guard_from_ones,
+    parity_tag_combined,
+    blank,
+    noise,
+];
+
+/// A few bits of the data.
+fn flip(case: &mut Case, member: usize, random: &mut Random) {
+    for _ in 0..random.between(1, 3) {
+        let bit = random.below(8 * DATA);
+        case.block(member)[bit / 8] ^= 0x80 >> (bit % 8);
+    }
+}
+
+fn guard_field(case: &mut Case, member: usize, random: &mut Random) {
+    case.block(member)[512 + random.below(2)] ^= random.between(1, 255) as u8;
+}
+
+fn kind(case: &mut Case, member: usize, random: &mut Random) {
+    case.block(member)[514] ^= random.pick(&[0x80, 0x80, 0x01, 0xFF]);
+}
+
+fn volume(case: &mut Case, member: usize, random: &mut Random) {
+    case.block(member)[515] ^= random.between(1, 255) as u8;
+}
+
+fn reference(case: &mut Case, member: usize, random: &mut Random) {
+    case.block(member)[516 + random.below(4)] ^= random.between(1, 255) as u8;
+}
+
+/// The tag values by which T10 lets a reader skip a block; here they are compared as any others.
+fn escape(case: &mut Case, member: usize, random: &mut Random) {
+    let end = random.pick(&[516, BLOCK]);
+    case.block(member)[514..end].fill(0xFF);
+}
+
+fn swap(case: &mut Case, member: usize, random: &mut Random) {
+    let other = random.below(case.array.members);
+    let blocks = [member, other].map(|member| case.block(member).to_vec());
+    case.block(member).copy_from_slice(&blocks[1]);
+    case.block(other).copy_from_slice(&blocks[0]);
+}
+
+/// Every block one member too far, as if the parity were not stepped over.
+fn shift(case: &mut Case, _: usize, _: &mut Random) {
+    case.bytes.rotate_right(BLOCK);
+}
+
+/// A block of the next or the previous stripe, or of one a turn of the parity away.
+fn other_stripe(case: &mut Case, member: usize, random: &mut Random) {
+    let turn = case.array.members as u64;
+    let far = random.pick(&[1, turn, 2 * turn]);
+    let stripe = if random.one_in(2) {
+        case.stripe + far
+    } else {
+        case.stripe.saturating_sub(far)
+    };
+    case.tag_as(case.array, stripe, member, member);
+}
+
+/// The block 65,536 stripes away: the two are told apart only by numbers that are not cut to sixteen bits.
+fn far_stripe(case: &mut Case, member: usize, _: &mut Random) {
+    let stripe = if case.stripe < 65_536 {
+        case.stripe + 65_536
+    } else {
+        case.stripe - 65_536
+    };
+    case.tag_as(case.array, stripe, member, member);
+}
+
+/// The tag of another member, with a fitting guard.
+fn other_member(case: &mut Case, member: usize, random: &mut Random) {
+    let place = random.below(case.array.members);
+    case.tag_as(case.array, case.stripe, member, place);
+}
+
+fn other_volume(case: &mut Case, member: usize, random: &mut Random) {
+    let mut array = case.array;
+    array.volume ^= random.between(1, 255) as u8;
+    case.tag_as(array, case.stripe, member, member);
+}
+
+/// A member's data written anew with its tag, and the other members as before.
+fn torn(case: &mut Case, member: usize, random: &mut Random) {
+    let (from, bits) = (random.below(8 * DATA), random.between(1, 40) as usize);
+    for bit in from..(from + bits).min(8 * DATA) {
+        case.block(member)[bit / 8] ^= (random.next() as u8) & (0x80 >> (bit % 8));
+    }
+    case.tag_again(member);
+}
+
+/// A torn stripe whose guards fit all the same: the difference is a multiple of the generator.
+fn torn_unnoticed(case: &mut Case, member: usize, random: &mut Random) {
+    let place = random.below(DATA - 2);
+    for (at, byte) in [0x01, 0x8B, 0xB7].into_iter().enumerate() {
+        case.block(member)[place + at] ^= byte;
+    }
+    case.tag_again(member);
+}
+
+/// Reference, application and guard in the wrong order.
+fn fields_reversed(case: &mut Case, member: usize, _: &mut Random) {
+    let tag = case.block(member)[DATA..].to_vec();
+    let reversed = [&tag[4..8], &tag[2..4], &tag[0..2]].concat();
+    case.block(member)[DATA..].copy_from_slice(&reversed);
+}
+
+fn guard_from_ones(case: &mut Case, member: usize, _: &mut Random) {
+    let block = case.block(member);
+    let guard = guard::go_on(0xFFFF, &block[..DATA]);
+    block[512..514].copy_from_slice(&guard.to_be_bytes());
+}
+
+/// The parity's tag as the exclusive-or of the other tags.
+fn parity_tag_combined(case: &mut Case, _: usize, _: &mut Random) {
+    let row = case.array.row(case.stripe);
+    let mut tag = [0; 8];
+    for member in (0..row.len()).filter(|member| matches!(row[*member], Owner::Data { .. })) {
+        for (sum, byte) in tag.iter_mut().zip(&case.block(member)[DATA..]) {
+            *sum ^= byte;
+        }
+    }
+    let parity = case.array.parity_member(case.stripe);
+    case.block(parity)[DATA..].copy_from_slice(&tag);
+}
+
+fn blank(case: &mut Case, member: usize, random: &mut Random) {
+    let byte = random.pick(&[0x00, 0xFF]);
+    case.block(member).fill(byte);
+}
+
+fn noise(case: &mut Case, member: usize, random: &mut Random) {
+    random.fill(case.block(member));
+}

@@ -1,0 +1,304 @@
+//! The scrub in pieces: lists of calls against a history, and single calls from states that no start gives.
+
+use super::cases::{self, Case};
+use super::{Outcome, Tally, done_name, refusal, same, verdict_name, verdict_numbers};
+use crate::lent::{Lent, between_margins};
+use crate::library::{self, Scan, Taken};
+use crate::model::layout::Array;
+use crate::model::scan::{self, History};
+use crate::model::stripe::{self, BLOCK, DATA};
+use crate::random::Random;
+
+const LISTS: usize = 50_000;
+const STATES: usize = 100_000;
+/// No cut is longer.
+const LONGEST: usize = 600;
+
+fn start(array: &Array, stripe: u64, work: &mut Lent<u8>, tally: &mut Tally) -> Outcome<Taken> {
+    let before = work.contents().to_vec();
+    let answer = scan::start(array, stripe, &before);
+    let (state, due) = match &answer {
+        Ok((state, work)) => (*state, &work[..]),
+        Err(_) => (Scan::ZEROS, &before[..]),
+    };
+    let refusal = refusal(&answer);
+    let taken = between_margins(|| library::start(array, stripe, work))?;
+    same(Taken { refusal, state }, taken)
+        .and_then(|()| work.holds("work", due))
+        .map_err(|difference| format!("start of stripe {stripe} in {array:?}: {difference}"))?;
+    tally.add("start", done_name(&answer));
+    Ok(taken)
+}
+
+fn piece(
+    state: Scan,
+    member: usize,
+    bytes: &[u8],
+    work: &mut Lent<u8>,
+    tally: &mut Tally,
+) -> Outcome<Taken> {
+    let before = work.contents().to_vec();
+    let answer = scan::piece(&state, member, bytes, &before);
+    let (next, due) = match &answer {
+        Ok((next, work)) => (*next, &work[..]),
+        Err(_) => (state, &before[..]),
+    };
+    let refusal = refusal(&answer);
+    let lent = Lent::new(bytes);
+    let taken = between_margins(|| library::piece(state, member, &lent, work))?;
+    same(
+        Taken {
+            refusal,
+            state: next,
+        },
+        taken,
+    )
+    .and_then(|()| lent.kept("piece"))
+    .and_then(|()| work.holds("work", due))
+    .map_err(|difference| {
+        format!(
+            "piece of {} for member {member} at {state:?}: {difference}",
+            bytes.len()
+        )
+    })?;
+    tally.add("piece", done_name(&answer));
+    Ok(taken)
+}
+
+fn finish(state: Scan, work: &Lent<u8>, tally: &mut Tally) -> Outcome<library::Verdict> {
+    let before = work.contents().to_vec();
+    let answer = scan::finish(&state, &before);
+    let verdict = between_margins(|| library::finish(state, work))?;
+    same(verdict_numbers(&answer), verdict)
+        .and_then(|()| work.holds("work", &before))
+        .map_err(|difference| format!("finish at {state:?}: {difference}"))?;
+    tally.add("finish", verdict_name(&answer));
+    Ok(verdict)
+}
+
+/// A list of calls after a start: what the scan left last, and the history of the calls.
+struct List {
+    array: Array,
+    /// The blocks that the pieces are cut from.
+    blocks: Vec<u8>,
+    /// No cut is longer.
+    longest: usize,
+    state: Scan,
+    work: Lent<u8>,
+    history: History,
+}
+
+impl List {
+    fn start(random: &mut Random, tally: &mut Tally) -> Outcome<Self> {
+        let array = cases::array(random);
+        let stripe = cases::stripe_of(&array, random);
+        let mut work = Lent::new(&random.bytes(DATA));
+        Ok(List {
+            array,
+            blocks: Case::any(array, stripe, random).bytes,
+            longest: longest_cut(random),
+            state: start(&array, stripe, &mut work, tally)?.state,
+            work,
+            history: History::open(array, stripe),
+        })
+    }
+
+    fn is_whole(&self) -> bool {
+        (0..self.array.members).all(|member| self.history.position(member) == BLOCK)
+    }
+
+    /// What is next of a member, cut anywhere; now and then more than it lacks.
+    fn cut(&self, member: usize, random: &mut Random) -> Vec<u8> {
+        let rest = &self.blocks[stripe::span(member)][self.history.position(member)..];
+        let length = random.below(self.longest + 1);
+        if length <= rest.len() {
+            return rest[..length].to_vec();
+        }
+        if !random.one_in(4) {
+            return rest.to_vec();
+        }
+        let more = random.bytes(length - rest.len());
+        [rest, &more].concat()
+    }
+
+    fn piece(&mut self, member: usize, bytes: &[u8], tally: &mut Tally) -> Outcome<()> {
+        let taken = piece(self.state, member, bytes, &mut self.work, tally)?;
+        same(refusal(&self.history.piece(member, bytes)), taken.refusal)
+            .map_err(|difference| format!("piece by the history: {difference}"))?;
+        self.state = taken.state;
+        Ok(())
+    }
+
+    fn finish(&self, tally: &mut Tally) -> Outcome<()> {
+        let verdict = finish(self.state, &self.work, tally)?;
+        same(verdict_numbers(&self.history.finish()), verdict)
+            .map_err(|difference| format!("finish by the history: {difference}"))
+    }
+
+    /// The next call: mostly a piece, for a member that lacks some if there is one.
+    fn call(&mut self, random: &mut Random, tally: &mut Tally) -> Outcome<()> {
+        if random.one_in(16) {
+            return self.finish(tally);
+        }
+        let mut member = random.below(self.array.members);
+        if random.one_in(24) {
+            let past = [0, 1, 16, 256, 1 << 32].map(|far| self.array.members + far);
+            return self.piece(random.pick(&past), &random.bytes(3), tally);
+        }
+        if self.history.position(member) == BLOCK && !random.one_in(3) {
+            let lacks = |member: &usize| self.history.position(*member) < BLOCK;
+            member = (0..self.array.members).find(lacks).unwrap_or(member);
+        }
+        let bytes = self.cut(member, random);
+        self.piece(member, &bytes, tally)
+    }
+
+    /// The state and the work buffer are what the bytes so far make them.
+    fn holds(&self) -> Outcome<()> {
+        same(self.history.state(), self.state)
+            .and_then(|()| self.work.holds("work", &self.history.work()))
+            .map_err(|difference| format!("by the history: {difference}"))
+    }
+}
+
+/// How long the cuts of a list are: mostly any, now and then short.
+fn longest_cut(random: &mut Random) -> usize {
+    match random.below(1_000) {
+        0 => 1,
+        1..30 => 30,
+        30..200 => 200,
+        _ => LONGEST,
+    }
+}
+
+/// A list of calls: mostly until every member is whole, and then some more.
+fn list(random: &mut Random, tally: &mut Tally) -> Outcome<()> {
+    let mut list = List::start(random, tally)?;
+    let mut left = if random.one_in(5) {
+        random.below(60)
+    } else {
+        usize::MAX
+    };
+    while left > 0 && !list.is_whole() {
+        list.call(random, tally)?;
+        if random.one_in(16) {
+            list.holds()?;
+        }
+        left -= 1;
+    }
+    for _ in 0..random.pick(&[0, 1, 3, 6, 30]) {
+        list.call(random, tally)?;
+    }
+    list.finish(tally)?;
+    list.holds()
+}
+
+/// A position: mostly one that a scan reaches, and now and then one above.
+fn any_position(random: &mut Random) -> u16 {
+    match random.below(40) {
+        0 => random.pick(&[521, 522, 1_032, 32_768, 65_535]),
+        1..10 => random.pick(&[0, 511, 512, 513, 514, 516, 519]),
+        10..20 => random.below(BLOCK) as u16,
+        _ => BLOCK as u16,
+    }
+}
+
+/// A state that no start gives; its tags fit its registers, mostly, where that can be.
+fn any_state(random: &mut Random) -> Scan {
+    let array = cases::any_array(random);
+    let stripe = cases::any_stripe(&array, random);
+    let mut state = Scan {
+        members: array.members,
+        stripes: array.stripes,
+        volume: array.volume,
+        stripe,
+        ..Scan::ZEROS
+    };
+    random.fill(&mut state.tag);
+    let whole = random.one_in(2);
+    let wrong = random.pick(&[2, 20, 1_000]);
+    for member in 0..16 {
+        state.at[member] = if whole {
+            BLOCK as u16
+        } else {
+            any_position(random)
+        };
+        state.register[member] = random.next() as u16;
+        if array.place_fits(stripe, member).is_ok() && !random.one_in(wrong) {
+            let tag = stripe::due(&array, stripe, member, state.register[member]);
+            state.tag[8 * member..][..8].copy_from_slice(&tag);
+        }
+    }
+    state
+}
+
+/// A work buffer with anything in it, now and then of a wrong length.
+fn any_work(random: &mut Random) -> Lent<u8> {
+    let length = cases::any_length(DATA, random);
+    let mut work = vec![0; length];
+    match random.below(3) {
+        0 => random.fill(&mut work),
+        1 if length > 0 => work[random.below(length)] = random.between(1, 255) as u8,
+        _ => {}
+    }
+    Lent::new(&work)
+}
+
+/// A start, and a piece and a finish from any state.
+fn states(random: &mut Random, tally: &mut Tally) -> Outcome<()> {
+    let array = cases::any_array(random);
+    let stripe = cases::any_stripe(&array, random);
+    start(&array, stripe, &mut any_work(random), tally)?;
+    let state = any_state(random);
+    finish(state, &any_work(random), tally)?;
+    let member = cases::any_member(
+        &Array {
+            members: state.members,
+            ..array
+        },
+        random,
+    );
+    let mut length = random.below(LONGEST + 1);
+    if let Some(at) = state.at.get(member) {
+        length = length.min(random.pick(&[LONGEST, BLOCK.saturating_sub(usize::from(*at))]));
+    }
+    let mut work = any_work(random);
+    let taken = piece(state, member, &random.bytes(length), &mut work, tally)?;
+    finish(taken.state, &work, tally)?;
+    Ok(())
+}
+
+fn calls(
+    tally: &Tally,
+    start: &[&'static str],
+    piece: &[&'static str],
+    finish: &[&'static str],
+) -> Outcome<String> {
+    Ok(format!(
+        "{}, {}, {}",
+        tally.of("start", start)?,
+        tally.of("piece", piece)?,
+        tally.of("finish", finish)?
+    ))
+}
+
+pub fn compare(random: &mut Random) -> Outcome<String> {
+    let (mut listed, mut single) = (Tally::default(), Tally::default());
+    for number in 0..LISTS {
+        list(random, &mut listed).map_err(|difference| format!("list {number}: {difference}"))?;
+    }
+    for _ in 0..STATES {
+        states(random, &mut single)?;
+    }
+    let verdicts = ["clean", "bad", "torn", "8"];
+    Ok(format!(
+        "calls alike in {LISTS} lists: {}; from any state: {}",
+        calls(&listed, &["done"], &["done", "5", "7"], &verdicts)?,
+        calls(
+            &single,
+            &["done", "1", "2", "3", "6"],
+            &["done", "4", "5", "6", "7"],
+            &["clean", "bad", "torn", "4", "6", "8"]
+        )?
+    ))
+}

@@ -1,0 +1,122 @@
+//! The full scrub and the quick scrub of whole stripes.
+
+use super::cases::{self, Case};
+use super::{Outcome, Tally, refusal, same, tally, verdict_name, verdict_numbers};
+use crate::lent::Lent;
+use crate::library;
+use crate::model::layout::Array;
+use crate::model::stripe::{self, Verdict};
+use crate::random::Random;
+
+/// How many stripes for each number of members.
+const STRIPES: usize = 1_430;
+const REFUSALS: usize = 20_000;
+
+fn scrub(array: &Array, stripe: u64, bytes: &[u8], tally: &mut Tally) -> Outcome<()> {
+    let answer = stripe::scrub(array, stripe, bytes);
+    let lent = Lent::new(bytes);
+    same(
+        verdict_numbers(&answer),
+        library::scrub(array, stripe, &lent),
+    )
+    .and_then(|()| lent.kept("stripe"))
+    .map_err(|difference| format!("scrub of stripe {stripe} in {array:?}: {difference}"))?;
+    tally.add("scrub", verdict_name(&answer));
+    Ok(())
+}
+
+fn quick_scrub(guards: &[u16], tally: &mut Tally) -> Outcome<()> {
+    let answer = stripe::quick_scrub(guards);
+    let combination = answer.unwrap_or(0);
+    let numbers = library::Quick {
+        refusal: refusal(&answer),
+        differs: u32::from(combination != 0),
+        combination: u32::from(combination),
+    };
+    let lent = Lent::new(guards);
+    same(numbers, library::quick_scrub(&lent))
+        .and_then(|()| lent.kept("guards"))
+        .map_err(|difference| format!("quick scrub of {guards:04X?}: {difference}"))?;
+    let name = match answer {
+        Ok(0) => "fits",
+        Ok(_) => "differs",
+        Err(number) => tally::refused(number),
+    };
+    tally.add("quick scrub", name);
+    Ok(())
+}
+
+/// The one bits of a run lie within sixteen successive places.
+fn within_sixteen(bytes: &[u8]) -> bool {
+    let bits: Vec<usize> = (0..8 * bytes.len())
+        .filter(|bit| bytes[bit / 8] & 0x80 >> (bit % 8) != 0)
+        .collect();
+    match (bits.first(), bits.last()) {
+        (Some(first), Some(last)) => last - first < 16,
+        _ => true,
+    }
+}
+
+/// Where no member is bad, the quick scrub fits on a clean stripe, and never where the difference is within sixteen bits.
+fn quick_by_verdict(case: &Case, tally: &mut Tally) -> Outcome<()> {
+    let guards = stripe::stored_guards(&case.bytes);
+    quick_scrub(&guards, tally)?;
+    let sum = stripe::combine(case.bytes.chunks(stripe::BLOCK));
+    let (stripes, due) = match stripe::scrub(&case.array, case.stripe, &case.bytes) {
+        Ok(Verdict::Clean) => ("clean", Some(0)),
+        Ok(Verdict::Torn { .. }) if within_sixteen(&sum) => ("torn within sixteen bits", Some(1)),
+        Ok(Verdict::Torn { .. }) => ("torn", None),
+        _ => return Ok(()),
+    };
+    let differs = library::quick_scrub(&Lent::new(&guards)).differs;
+    same(due.unwrap_or(differs), differs)
+        .map_err(|difference| format!("quick scrub of a {stripes} stripe: {difference}"))?;
+    tally.add(stripes, if differs == 0 { "fits" } else { "differs" });
+    Ok(())
+}
+
+fn refusals(random: &mut Random, tally: &mut Tally) -> Outcome<()> {
+    let array = cases::any_array(random);
+    let stripe = cases::any_stripe(&array, random);
+    let bytes = cases::any_stripe_bytes(&array, stripe, random);
+    scrub(&array, stripe, &bytes, tally)?;
+    let count = random.below(21);
+    let mut guards: Vec<u16> = (0..count).map(|_| random.next() as u16).collect();
+    if random.one_in(2) {
+        let sum = guards.iter().skip(1).fold(0, |sum, guard| sum ^ guard);
+        guards.iter_mut().take(1).for_each(|first| *first = sum);
+    }
+    quick_scrub(&guards, tally)
+}
+
+pub fn compare(random: &mut Random) -> Outcome<String> {
+    let mut tally = Tally::default();
+    let mut stripes = 0;
+    for members in 3..=16 {
+        for _ in 0..STRIPES {
+            let array = Array {
+                members,
+                ..cases::array(random)
+            };
+            let stripe = cases::stripe_of(&array, random);
+            let case = Case::any(array, stripe, random);
+            scrub(&array, stripe, &case.bytes, &mut tally)?;
+            quick_by_verdict(&case, &mut tally)?;
+            stripes += 1;
+        }
+    }
+    for _ in 0..REFUSALS {
+        refusals(random, &mut tally)?;
+    }
+    let calls = [
+        tally.of("scrub", &["clean", "bad", "torn", "1", "2", "3", "6"])?,
+        tally.of("quick scrub", &["fits", "differs", "1"])?,
+        tally.of("clean", &["fits"])?,
+        tally.of("torn within sixteen bits", &["differs"])?,
+        tally.of("torn", &["fits", "differs"])?,
+    ];
+    Ok(format!(
+        "calls alike on {stripes} stripes and at refusals: {}",
+        calls.join(", ")
+    ))
+}

@@ -1,0 +1,227 @@
+//! The jobs on a stripe: on good and damaged stripes, and on numbers and lengths that must be refused.
+
+use super::cases::{self, Case};
+use super::{Outcome, Tally, done_name, refusal, same, tally};
+use crate::lent::Lent;
+use crate::library;
+use crate::model::Answer;
+use crate::model::layout::Array;
+use crate::model::stripe::{self, BLOCK, Checked, DATA, Field};
+use crate::random::Random;
+
+/// How many stripes for each number of members.
+const STRIPES: usize = 1_430;
+const REFUSALS: usize = 20_000;
+
+fn check_numbers(answer: &Answer<Checked>) -> library::Check {
+    let (field, found, expected) = match *answer {
+        Ok(Checked::Wrong {
+            field,
+            found,
+            expected,
+        }) => (1 + field as u32, found, expected),
+        _ => (0, 0, 0),
+    };
+    library::Check {
+        refusal: refusal(answer),
+        field,
+        found,
+        expected,
+    }
+}
+
+fn check_name(answer: &Answer<Checked>) -> &'static str {
+    match answer {
+        Ok(Checked::Good) => "good",
+        Ok(Checked::Wrong { field, .. }) => match field {
+            Field::Guard => "guard",
+            Field::Application => "application",
+            Field::Reference => "reference",
+        },
+        Err(number) => tally::refused(*number),
+    }
+}
+
+fn check(
+    array: &Array,
+    stripe: u64,
+    member: usize,
+    block: &[u8],
+    tally: &mut Tally,
+) -> Outcome<()> {
+    let answer = stripe::check(array, stripe, member, block);
+    let lent = Lent::new(block);
+    same(
+        check_numbers(&answer),
+        library::check(array, stripe, member, &lent),
+    )
+    .and_then(|()| lent.kept("block"))
+    .map_err(|difference| {
+        format!("check of stripe {stripe}, member {member} in {array:?}: {difference}")
+    })?;
+    tally.add("check", check_name(&answer));
+    Ok(())
+}
+
+fn seal(array: &Array, stripe: u64, data: &[u8], before: &[u8], tally: &mut Tally) -> Outcome<()> {
+    let answer = stripe::seal(array, stripe, data, before);
+    let (lent, mut bytes) = (Lent::new(data), Lent::new(before));
+    same(
+        refusal(&answer),
+        library::seal(array, stripe, &lent, &mut bytes),
+    )
+    .and_then(|()| lent.kept("data"))
+    .and_then(|()| bytes.holds("stripe", answer.as_deref().unwrap_or(before)))
+    .map_err(|difference| format!("seal of stripe {stripe} in {array:?}: {difference}"))?;
+    tally.add("seal", done_name(&answer));
+    Ok(())
+}
+
+fn read(array: &Array, block: u64, bytes: &[u8], before: &[u8], tally: &mut Tally) -> Outcome<()> {
+    let answer = stripe::read(array, block, bytes, before);
+    let (rebuilt, due) = match &answer {
+        Ok(read) => (read.rebuilt, &read.data[..]),
+        Err(_) => (false, before),
+    };
+    let numbers = library::Read {
+        refusal: refusal(&answer),
+        rebuilt: u32::from(rebuilt),
+    };
+    let (lent, mut out) = (Lent::new(bytes), Lent::new(before));
+    same(numbers, library::read(array, block, &lent, &mut out))
+        .and_then(|()| lent.kept("stripe"))
+        .and_then(|()| out.holds("out", due))
+        .map_err(|difference| format!("read of block {block} in {array:?}: {difference}"))?;
+    let name = match answer {
+        Ok(_) if rebuilt => "rebuilt",
+        Ok(_) => "stored",
+        Err(number) => tally::refused(number),
+    };
+    tally.add("read", name);
+    Ok(())
+}
+
+fn rebuild(
+    array: &Array,
+    stripe: u64,
+    member: usize,
+    before: &[u8],
+    tally: &mut Tally,
+) -> Outcome<()> {
+    let answer = stripe::rebuild(array, stripe, member, before);
+    let mut bytes = Lent::new(before);
+    same(
+        refusal(&answer),
+        library::rebuild(array, stripe, member, &mut bytes),
+    )
+    .and_then(|()| bytes.holds("stripe", answer.as_deref().unwrap_or(before)))
+    .map_err(|difference| {
+        format!("rebuild of stripe {stripe}, member {member} in {array:?}: {difference}")
+    })?;
+    tally.add("rebuild", done_name(&answer));
+    Ok(())
+}
+
+fn update(array: &Array, block: u64, data: &[u8], before: &[u8], tally: &mut Tally) -> Outcome<()> {
+    let answer = stripe::update(array, block, data, before);
+    let (lent, mut bytes) = (Lent::new(data), Lent::new(before));
+    same(
+        refusal(&answer),
+        library::update(array, block, &lent, &mut bytes),
+    )
+    .and_then(|()| lent.kept("data"))
+    .and_then(|()| bytes.holds("stripe", answer.as_deref().unwrap_or(before)))
+    .map_err(|difference| format!("update of block {block} in {array:?}: {difference}"))?;
+    tally.add("update", done_name(&answer));
+    Ok(())
+}
+
+/// All jobs on one stripe.
+fn jobs(case: &Case, random: &mut Random, tally: &mut Tally) -> Outcome<()> {
+    let Case {
+        array,
+        stripe,
+        data,
+        bytes,
+    } = case;
+    seal(array, *stripe, data, &random.bytes(bytes.len()), tally)?;
+    for (member, block) in bytes.chunks(BLOCK).enumerate() {
+        check(array, *stripe, member, block, tally)?;
+    }
+    let lowest = stripe * array.data_members() as u64;
+    let out = random.bytes(DATA);
+    for block in lowest..lowest + array.data_members() as u64 {
+        read(array, block, bytes, &out, tally)?;
+    }
+    for _ in 0..2 {
+        rebuild(array, *stripe, random.below(array.members), bytes, tally)?;
+        let block = lowest + random.below(array.data_members()) as u64;
+        update(array, block, &random.bytes(DATA), bytes, tally)?;
+    }
+    Ok(())
+}
+
+/// One call of each job, with numbers or lengths that may be refused.
+fn refusals(random: &mut Random, tally: &mut Tally) -> Outcome<()> {
+    let array = cases::any_array(random);
+    let (stripe, member) = (
+        cases::any_stripe(&array, random),
+        cases::any_member(&array, random),
+    );
+    let block = cases::any_block(&array, random);
+    let length = cases::any_length(BLOCK, random);
+    check(&array, stripe, member, &random.bytes(length), tally)?;
+    let bytes = cases::any_stripe_bytes(&array, stripe, random);
+    rebuild(&array, stripe, member, &bytes, tally)?;
+    let length = cases::any_length(array.members.clamp(1, 20) * DATA - DATA, random);
+    seal(&array, stripe, &random.bytes(length), &bytes, tally)?;
+    let of_block = array.place(block).map_or(0, |place| place.stripe);
+    let bytes = cases::any_stripe_bytes(&array, of_block, random);
+    let length = cases::any_length(DATA, random);
+    let data = random.bytes(length);
+    read(&array, block, &bytes, &data, tally)?;
+    update(&array, block, &data, &bytes, tally)
+}
+
+pub fn compare(random: &mut Random) -> Outcome<String> {
+    let mut tally = Tally::default();
+    let mut stripes = 0;
+    for members in 3..=16 {
+        for _ in 0..STRIPES {
+            let array = Array {
+                members,
+                ..cases::array(random)
+            };
+            let stripe = cases::stripe_of(&array, random);
+            jobs(&Case::any(array, stripe, random), random, &mut tally)?;
+            stripes += 1;
+        }
+    }
+    for _ in 0..REFUSALS {
+        refusals(random, &mut tally)?;
+    }
+    let calls = [
+        tally.of(
+            "check",
+            &[
+                "good",
+                "guard",
+                "application",
+                "reference",
+                "1",
+                "2",
+                "3",
+                "5",
+                "6",
+            ],
+        )?,
+        tally.of("seal", &["done", "1", "2", "3", "6"])?,
+        tally.of("read", &["stored", "rebuilt", "1", "2", "3", "6", "9"])?,
+        tally.of("rebuild", &["done", "1", "2", "3", "5", "6", "9"])?,
+        tally.of("update", &["done", "1", "2", "3", "6", "9"])?,
+    ];
+    Ok(format!(
+        "calls alike on {stripes} stripes and at refusals: {}",
+        calls.join(", ")
+    ))
+}
