@@ -22,6 +22,8 @@ const PARTS: &[(&str, Comparison)] = &[
     ("guard", compare::guard::compare),
     #[cfg(feature = "layout")]
     ("layout", compare::layout::compare),
+    #[cfg(feature = "tag")]
+    ("tag", compare::tag::compare),
     #[cfg(feature = "stripe")]
     ("stripe", compare::stripe::compare),
     #[cfg(feature = "scrub")]

@@ -1,9 +1,15 @@
 //! What to compare on: arrays and their stripes, good and damaged, and numbers and lengths that must be refused.
 
+use super::Outcome;
 use crate::model::guard;
 use crate::model::layout::{Array, Owner};
 use crate::model::stripe::{self, BLOCK, DATA};
 use crate::random::Random;
+
+/// How many stripes are tried of each number of members.
+const STRIPES_EACH: usize = 1_430;
+/// How many calls are made with numbers or lengths that may be refused.
+pub const REFUSALS: usize = 20_000;
 
 #[rustfmt::skip]
 pub const STRIPES: [u64; 10] = [1, 2, 3, 7, 100, 65_535, 65_536, 65_537, 268_435_455, 268_435_456];
@@ -88,6 +94,26 @@ pub fn any_stripe_bytes(array: &Array, stripe: u64, random: &mut Random) -> Vec<
         case.damage(random);
     }
     case.bytes
+}
+
+/// A job on stripes, good and damaged, as many for each number of members; and how many they were.
+pub fn each_stripe(
+    random: &mut Random,
+    mut job: impl FnMut(&Case, &mut Random) -> Outcome<()>,
+) -> Outcome<usize> {
+    let mut stripes = 0;
+    for members in 3..=16 {
+        for _ in 0..STRIPES_EACH {
+            let array = Array {
+                members,
+                ..array(random)
+            };
+            let stripe = stripe_of(&array, random);
+            job(&Case::any(array, stripe, random), random)?;
+            stripes += 1;
+        }
+    }
+    Ok(stripes)
 }
 
 /// A stripe in memory.

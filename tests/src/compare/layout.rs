@@ -166,7 +166,7 @@ pub fn compare(random: &mut Random) -> Outcome<String> {
     }
     Ok(format!(
         "calls alike, both ways: {}, {}; {places} places of small arrays filled once each",
-        tally.of("place", &["done", "1", "2", "3"])?,
-        tally.of("owner", &["data", "parity", "1", "2", "3", "5"])?
+        tally.of("place", "done 1 2 3")?,
+        tally.of("owner", "data parity 1 2 3 5")?
     ))
 }

@@ -6,6 +6,7 @@ pub mod layout;
 pub mod scan;
 pub mod scrub;
 pub mod stripe;
+pub mod tag;
 mod tally;
 
 use crate::library;

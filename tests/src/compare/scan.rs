@@ -268,12 +268,7 @@ fn states(random: &mut Random, tally: &mut Tally) -> Outcome<()> {
     Ok(())
 }
 
-fn calls(
-    tally: &Tally,
-    start: &[&'static str],
-    piece: &[&'static str],
-    finish: &[&'static str],
-) -> Outcome<String> {
+fn calls(tally: &Tally, start: &str, piece: &str, finish: &str) -> Outcome<String> {
     Ok(format!(
         "{}, {}, {}",
         tally.of("start", start)?,
@@ -290,15 +285,14 @@ pub fn compare(random: &mut Random) -> Outcome<String> {
     for _ in 0..STATES {
         states(random, &mut single)?;
     }
-    let verdicts = ["clean", "bad", "torn", "8"];
+    let listed = calls(&listed, "done", "done 5 7", "clean bad torn 8")?;
+    let single = calls(
+        &single,
+        "done 1 2 3 6",
+        "done 4 5 6 7",
+        "clean bad torn 4 6 8",
+    )?;
     Ok(format!(
-        "calls alike in {LISTS} lists: {}; from any state: {}",
-        calls(&listed, &["done"], &["done", "5", "7"], &verdicts)?,
-        calls(
-            &single,
-            &["done", "1", "2", "3", "6"],
-            &["done", "4", "5", "6", "7"],
-            &["clean", "bad", "torn", "4", "6", "8"]
-        )?
+        "calls alike in {LISTS} lists: {listed}; from any state: {single}"
     ))
 }

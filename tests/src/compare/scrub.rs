@@ -8,10 +8,6 @@ use crate::model::layout::Array;
 use crate::model::stripe::{self, Verdict};
 use crate::random::Random;
 
-/// How many stripes for each number of members.
-const STRIPES: usize = 1_430;
-const REFUSALS: usize = 20_000;
-
 fn scrub(array: &Array, stripe: u64, bytes: &[u8], tally: &mut Tally) -> Outcome<()> {
     let answer = stripe::scrub(array, stripe, bytes);
     let lent = Lent::new(bytes);
@@ -91,29 +87,19 @@ fn refusals(random: &mut Random, tally: &mut Tally) -> Outcome<()> {
 
 pub fn compare(random: &mut Random) -> Outcome<String> {
     let mut tally = Tally::default();
-    let mut stripes = 0;
-    for members in 3..=16 {
-        for _ in 0..STRIPES {
-            let array = Array {
-                members,
-                ..cases::array(random)
-            };
-            let stripe = cases::stripe_of(&array, random);
-            let case = Case::any(array, stripe, random);
-            scrub(&array, stripe, &case.bytes, &mut tally)?;
-            quick_by_verdict(&case, &mut tally)?;
-            stripes += 1;
-        }
-    }
-    for _ in 0..REFUSALS {
+    let stripes = cases::each_stripe(random, |case, _| {
+        scrub(&case.array, case.stripe, &case.bytes, &mut tally)?;
+        quick_by_verdict(case, &mut tally)
+    })?;
+    for _ in 0..cases::REFUSALS {
         refusals(random, &mut tally)?;
     }
     let calls = [
-        tally.of("scrub", &["clean", "bad", "torn", "1", "2", "3", "6"])?,
-        tally.of("quick scrub", &["fits", "differs", "1"])?,
-        tally.of("clean", &["fits"])?,
-        tally.of("torn within sixteen bits", &["differs"])?,
-        tally.of("torn", &["fits", "differs"])?,
+        tally.of("scrub", "clean bad torn 1 2 3 6")?,
+        tally.of("quick scrub", "fits differs 1")?,
+        tally.of("clean", "fits")?,
+        tally.of("torn within sixteen bits", "differs")?,
+        tally.of("torn", "fits differs")?,
     ];
     Ok(format!(
         "calls alike on {stripes} stripes and at refusals: {}",

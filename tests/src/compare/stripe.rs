@@ -4,64 +4,9 @@ use super::cases::{self, Case};
 use super::{Outcome, Tally, done_name, refusal, same, tally};
 use crate::lent::Lent;
 use crate::library;
-use crate::model::Answer;
 use crate::model::layout::Array;
-use crate::model::stripe::{self, BLOCK, Checked, DATA, Field};
+use crate::model::stripe::{self, DATA};
 use crate::random::Random;
-
-/// How many stripes for each number of members.
-const STRIPES: usize = 1_430;
-const REFUSALS: usize = 20_000;
-
-fn check_numbers(answer: &Answer<Checked>) -> library::Check {
-    let (field, found, expected) = match *answer {
-        Ok(Checked::Wrong {
-            field,
-            found,
-            expected,
-        }) => (1 + field as u32, found, expected),
-        _ => (0, 0, 0),
-    };
-    library::Check {
-        refusal: refusal(answer),
-        field,
-        found,
-        expected,
-    }
-}
-
-fn check_name(answer: &Answer<Checked>) -> &'static str {
-    match answer {
-        Ok(Checked::Good) => "good",
-        Ok(Checked::Wrong { field, .. }) => match field {
-            Field::Guard => "guard",
-            Field::Application => "application",
-            Field::Reference => "reference",
-        },
-        Err(number) => tally::refused(*number),
-    }
-}
-
-fn check(
-    array: &Array,
-    stripe: u64,
-    member: usize,
-    block: &[u8],
-    tally: &mut Tally,
-) -> Outcome<()> {
-    let answer = stripe::check(array, stripe, member, block);
-    let lent = Lent::new(block);
-    same(
-        check_numbers(&answer),
-        library::check(array, stripe, member, &lent),
-    )
-    .and_then(|()| lent.kept("block"))
-    .map_err(|difference| {
-        format!("check of stripe {stripe}, member {member} in {array:?}: {difference}")
-    })?;
-    tally.add("check", check_name(&answer));
-    Ok(())
-}
 
 fn seal(array: &Array, stripe: u64, data: &[u8], before: &[u8], tally: &mut Tally) -> Outcome<()> {
     let answer = stripe::seal(array, stripe, data, before);
@@ -145,9 +90,6 @@ fn jobs(case: &Case, random: &mut Random, tally: &mut Tally) -> Outcome<()> {
         bytes,
     } = case;
     seal(array, *stripe, data, &random.bytes(bytes.len()), tally)?;
-    for (member, block) in bytes.chunks(BLOCK).enumerate() {
-        check(array, *stripe, member, block, tally)?;
-    }
     let lowest = stripe * array.data_members() as u64;
     let out = random.bytes(DATA);
     for block in lowest..lowest + array.data_members() as u64 {
@@ -169,8 +111,6 @@ fn refusals(random: &mut Random, tally: &mut Tally) -> Outcome<()> {
         cases::any_member(&array, random),
     );
     let block = cases::any_block(&array, random);
-    let length = cases::any_length(BLOCK, random);
-    check(&array, stripe, member, &random.bytes(length), tally)?;
     let bytes = cases::any_stripe_bytes(&array, stripe, random);
     rebuild(&array, stripe, member, &bytes, tally)?;
     let length = cases::any_length(array.members.clamp(1, 20) * DATA - DATA, random);
@@ -185,40 +125,15 @@ fn refusals(random: &mut Random, tally: &mut Tally) -> Outcome<()> {
 
 pub fn compare(random: &mut Random) -> Outcome<String> {
     let mut tally = Tally::default();
-    let mut stripes = 0;
-    for members in 3..=16 {
-        for _ in 0..STRIPES {
-            let array = Array {
-                members,
-                ..cases::array(random)
-            };
-            let stripe = cases::stripe_of(&array, random);
-            jobs(&Case::any(array, stripe, random), random, &mut tally)?;
-            stripes += 1;
-        }
-    }
-    for _ in 0..REFUSALS {
+    let stripes = cases::each_stripe(random, |case, random| jobs(case, random, &mut tally))?;
+    for _ in 0..cases::REFUSALS {
         refusals(random, &mut tally)?;
     }
     let calls = [
-        tally.of(
-            "check",
-            &[
-                "good",
-                "guard",
-                "application",
-                "reference",
-                "1",
-                "2",
-                "3",
-                "5",
-                "6",
-            ],
-        )?,
-        tally.of("seal", &["done", "1", "2", "3", "6"])?,
-        tally.of("read", &["stored", "rebuilt", "1", "2", "3", "6", "9"])?,
-        tally.of("rebuild", &["done", "1", "2", "3", "5", "6", "9"])?,
-        tally.of("update", &["done", "1", "2", "3", "6", "9"])?,
+        tally.of("seal", "done 1 2 3 6")?,
+        tally.of("read", "stored rebuilt 1 2 3 6 9")?,
+        tally.of("rebuild", "done 1 2 3 5 6 9")?,
+        tally.of("update", "done 1 2 3 6 9")?,
     ];
     Ok(format!(
         "calls alike on {stripes} stripes and at refusals: {}",

@@ -21,10 +21,10 @@ impl Tally {
         *self.counts.entry((call, answer)).or_default() += 1;
     }
 
-    /// The number of calls, for each of which all answers came up often; or the answer that did not.
-    pub fn of(&self, call: &'static str, answers: &[&'static str]) -> Result<String, String> {
-        for answer in answers {
-            let count = self.counts.get(&(call, *answer)).copied().unwrap_or(0);
+    /// How many calls there were, each of these answers among them often; or the answer that was not.
+    pub fn of(&self, call: &str, answers: &str) -> Result<String, String> {
+        for answer in answers.split(' ') {
+            let count = self.counts.get(&(call, answer)).copied().unwrap_or(0);
             if count < OFTEN {
                 return Err(format!(
                     "{call} gave the answer {answer} only {count} times"
