@@ -3,6 +3,24 @@
  *
  * Every call takes any bytes and any numbers, and returns; none keeps a pointer or allocates memory.
  * A buffer is a pointer, never NULL, and its length in bytes; where the length is 0 nothing is read.
+ * A call writes only where a pointer is not const, and only what is said there.
+ *
+ * An array is named by three numbers in every call: `members` (drives, n), `stripes` (S) and `volume`.
+ * Stripes, members and blocks are counted from 0. A stripe has one block on each member. One of these holds
+ * the parity, the other d = n - 1 hold data, so the array's block numbers run from 0 to S x d - 1.
+ * A block is 520 bytes: 512 of data, then its tag, in which every field has its highest byte first:
+ * guard (2 bytes, of the data), application tag (00h for data or 80h for parity, then the volume), reference
+ * tag (4 bytes: the block number; for parity, the lowest block number in its stripe).
+ *
+ * Refusals. A call that can be refused says so by number, 0 where it is done. It makes its tests in the order in
+ * which its numbers are listed, and the first that fails decides. A refused call leaves every buffer as it was
+ * and gives 0 in all other fields.
+ *
+ *   1  members is not 3 to 16
+ *   2  stripes is not 1 to 268,435,456
+ *   3  the array has no such stripe, or no such block
+ *   5  the array has no such member
+ *   6  a buffer has not the length that its call asks for
  */
 #ifndef IRUMBOLAI_H
 #define IRUMBOLAI_H
@@ -16,6 +34,40 @@ extern "C" {
 
 /* The guard of a run of bytes: CRC-16/T10-DIF, generator 8BB7h, register started at 0, highest bit first. */
 uint16_t irumbolai_guard(const uint8_t *bytes, size_t length);
+
+/* The stripe and the member on which a block lies. Refusals 1, 2, 3. */
+struct irumbolai_place {
+    uint32_t refusal;
+    uint32_t member;
+    uint64_t stripe;
+};
+struct irumbolai_place irumbolai_place(size_t members, uint64_t stripes, uint8_t volume, uint64_t block);
+
+/*
+ * What lies on a member of a stripe: with `parity` 0 the block of that number; with `parity` 1 the parity,
+ * and `block` is the lowest block number in the stripe. Refusals 1, 2, 3, 5.
+ */
+struct irumbolai_owner {
+    uint32_t refusal;
+    uint32_t parity;
+    uint64_t block;
+};
+struct irumbolai_owner irumbolai_owner(size_t members, uint64_t stripes, uint8_t volume, uint64_t stripe,
+                                       size_t member);
+
+/*
+ * A block, 520 bytes, checked against the tag due on a member of a stripe. `field` is 0 if the block is good;
+ * else it names the first wrong field (1 guard, 2 application tag, 3 reference tag), with the value found in the
+ * block and the value expected. Refusals 1, 2, 3, 5, 6.
+ */
+struct irumbolai_check {
+    uint32_t refusal;
+    uint32_t field;
+    uint32_t found;
+    uint32_t expected;
+};
+struct irumbolai_check irumbolai_check(size_t members, uint64_t stripes, uint8_t volume, uint64_t stripe,
+                                       size_t member, const uint8_t *block, size_t length);
 
 #ifdef __cplusplus
 }

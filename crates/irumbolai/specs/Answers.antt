@@ -1,0 +1,33 @@
+-- What C gets: the numbers of each call's answer in the fields of a struct. Assumes nothing.
+use Prim.Native.Nat.{ℕ}
+use mathlib.Core.List.{List, [], _∷_}
+use lib.ListN.{drop}
+use Rattle.layout.specs.declared.Array.{Array}
+use Rattle.layout.specs.declared.Placed.{Placed}
+use Rattle.layout.specs.declared.Placed.the-variants.{Refused, At}
+use Rattle.irumbolai.specs.declared.PlaceAnswer.{PlaceAnswer}
+use Rattle.irumbolai.specs.declared.OwnerAnswer.{OwnerAnswer}
+use Rattle.irumbolai.specs.declared.CheckAnswer.{CheckAnswer}
+
+-- the array whose numbers are handed in one by one
+abbrev pub arrayOf : ℕ → ℕ → ℕ → Array
+arrayOf members stripes volume = record { members = members; stripes = stripes; volume = volume }
+
+-- the numbers of an answer without the flag before them: in a struct, refusal 0 alone says that the call is done
+abbrev pub unflagged : List ℕ → List ℕ
+unflagged numbers = drop 1 numbers
+
+-- the member in an answer of `place`, 0 where there is none
+abbrev pub memberAnswered : Placed → ℕ
+memberAnswered (Refused number) = 0
+memberAnswered (At stripe member) = member
+
+-- the fields of each struct, in the order of the numbers
+abbrev pub placeFields : PlaceAnswer → List ℕ
+placeFields r = r .refusal ∷ r .stripe ∷ r .member ∷ []
+
+abbrev pub ownerFields : OwnerAnswer → List ℕ
+ownerFields r = r .refusal ∷ r .parity ∷ r .block ∷ []
+
+abbrev pub checkFields : CheckAnswer → List ℕ
+checkFields r = r .refusal ∷ r .field ∷ r .found ∷ r .expected ∷ []
