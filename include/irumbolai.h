@@ -10,7 +10,9 @@
  * the parity, the other d = n - 1 hold data, so the array's block numbers run from 0 to S x d - 1.
  * A block is 520 bytes: 512 of data, then its tag, in which every field has its highest byte first:
  * guard (2 bytes, of the data), application tag (00h for data or 80h for parity, then the volume), reference
- * tag (4 bytes: the block number; for parity, the lowest block number in its stripe).
+ * tag (4 bytes: the block number; for parity, the lowest block number in its stripe). A block is good on a member
+ * of a stripe if all three fields are those due there. A stripe in memory is its n blocks in the order of the
+ * members, n x 520 bytes.
  *
  * Refusals. A call that can be refused says so by number, 0 where it is done. It makes its tests in the order in
  * which its numbers are listed, and the first that fails decides. A refused call leaves every buffer as it was
@@ -21,6 +23,7 @@
  *   3  the array has no such stripe, or no such block
  *   5  the array has no such member
  *   6  a buffer has not the length that its call asks for
+ *   9  the blocks that the call needs are not all good
  */
 #ifndef IRUMBOLAI_H
 #define IRUMBOLAI_H
@@ -68,6 +71,42 @@ struct irumbolai_check {
 };
 struct irumbolai_check irumbolai_check(size_t members, uint64_t stripes, uint8_t volume, uint64_t stripe,
                                        size_t member, const uint8_t *block, size_t length);
+
+/*
+ * Makes a stripe: its d x 512 bytes of data, in the order of the block numbers, each with its tag, and the parity.
+ * Every byte of the stripe at `bytes` is written. Gives the refusal: 1, 2, 3, 6.
+ */
+uint32_t irumbolai_seal(size_t members, uint64_t stripes, uint8_t volume, uint64_t stripe, const uint8_t *data,
+                        size_t data_length, uint8_t *bytes, size_t length);
+
+/*
+ * Reads a block out of its stripe at `bytes` into the 512 bytes at `out`. If the block is good, `rebuilt` is 0 and
+ * its data come out, whatever the other members hold. If it is bad and all others are good, `rebuilt` is 1 and the
+ * exclusive-or of the others' data comes out: the lost data, if parity was right before the loss; no check can tell
+ * afterwards. Refusals 1, 2, 3, 6, 9.
+ */
+struct irumbolai_read {
+    uint32_t refusal;
+    uint32_t rebuilt;
+};
+struct irumbolai_read irumbolai_read(size_t members, uint64_t stripes, uint8_t volume, uint64_t block,
+                                     const uint8_t *bytes, size_t length, uint8_t *out, size_t out_length);
+
+/*
+ * Makes the block of a member from the others, which must all be good: the exclusive-or of their data, and the tag
+ * due there. The member's 520 bytes in the stripe at `bytes` are written, whatever stood there, and no others.
+ * Gives the refusal: 1, 2, 3, 5, 6, 9.
+ */
+uint32_t irumbolai_rebuild(size_t members, uint64_t stripes, uint8_t volume, uint64_t stripe, size_t member,
+                           uint8_t *bytes, size_t length);
+
+/*
+ * Puts 512 bytes of new data into a block and brings the parity of its stripe along. Both blocks must be good. They
+ * are written in the stripe at `bytes`; the other members are neither looked at nor changed.
+ * Gives the refusal: 1, 2, 3, 6, 9.
+ */
+uint32_t irumbolai_update(size_t members, uint64_t stripes, uint8_t volume, uint64_t block, const uint8_t *data,
+                          size_t data_length, uint8_t *bytes, size_t length);
 
 #ifdef __cplusplus
 }

@@ -8,6 +8,7 @@ use Rattle.layout.specs.declared.Placed.the-variants.{Refused, At}
 use Rattle.irumbolai.specs.declared.PlaceAnswer.{PlaceAnswer}
 use Rattle.irumbolai.specs.declared.OwnerAnswer.{OwnerAnswer}
 use Rattle.irumbolai.specs.declared.CheckAnswer.{CheckAnswer}
+use Rattle.irumbolai.specs.declared.ReadAnswer.{ReadAnswer}
 
 -- the array whose numbers are handed in one by one
 abbrev pub arrayOf : ℕ → ℕ → ℕ → Array
@@ -31,3 +32,6 @@ ownerFields r = r .refusal ∷ r .parity ∷ r .block ∷ []
 
 abbrev pub checkFields : CheckAnswer → List ℕ
 checkFields r = r .refusal ∷ r .field ∷ r .found ∷ r .expected ∷ []
+
+abbrev pub readFields : ReadAnswer → List ℕ
+readFields r = r .refusal ∷ r .rebuilt ∷ []

@@ -1,8 +1,8 @@
 -- `place_answer` sets out what it is handed, case by case. Assumes nothing.
 use borrow.Author.Needs.{needs}
 use native.Mathlib.Omega.{arith}
-use Rattle.irumbolai.proofs.place_answer.Statement.{statement}
-use Rattle.irumbolai.proofs.place_answer.Tie as tie
+use Rattle.irumbolai.proofs.places.place_answer.Statement.{statement}
+use Rattle.irumbolai.proofs.places.place_answer.Tie as tie
 
 enum-known-placed : tie.Need-enum-known-placed
 enum-known-placed c = search needs

@@ -1,7 +1,7 @@
 -- `check_answer` sets out what it is handed, case by case. Assumes nothing.
 use borrow.Author.Needs.{needs}
-use Rattle.irumbolai.proofs.check_answer.Statement.{statement}
-use Rattle.irumbolai.proofs.check_answer.Tie as tie
+use Rattle.irumbolai.proofs.stripes.check_answer.Statement.{statement}
+use Rattle.irumbolai.proofs.stripes.check_answer.Tie as tie
 
 enum-known-checked : tie.Need-enum-known-checked
 enum-known-checked c = search needs

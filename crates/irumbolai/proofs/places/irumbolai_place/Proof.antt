@@ -3,9 +3,9 @@ use mathlib.Core.Path.{ap, _∙_}
 use native.Mathlib.Omega.{arith}
 use borrow.Author.Needs.{needs}
 use Rattle.irumbolai.specs.Answers.{unflagged}
-use Rattle.irumbolai.proofs.Places.{member-small}
-use Rattle.irumbolai.proofs.irumbolai_place.Statement.{statement}
-use Rattle.irumbolai.proofs.irumbolai_place.Tie as tie
+use Rattle.irumbolai.proofs.Members.{member-small}
+use Rattle.irumbolai.proofs.places.irumbolai_place.Statement.{statement}
+use Rattle.irumbolai.proofs.places.irumbolai_place.Tie as tie
 
 place-requires : tie.Need-place-requires
 place-requires c κs = search needs

@@ -2,8 +2,8 @@
 use mathlib.Core.Path.{ap, _∙_}
 use borrow.Author.Needs.{needs}
 use Rattle.irumbolai.specs.Answers.{unflagged}
-use Rattle.irumbolai.proofs.irumbolai_owner.Statement.{statement}
-use Rattle.irumbolai.proofs.irumbolai_owner.Tie as tie
+use Rattle.irumbolai.proofs.places.irumbolai_owner.Statement.{statement}
+use Rattle.irumbolai.proofs.places.irumbolai_owner.Tie as tie
 
 owner-requires : tie.Need-owner-requires
 owner-requires c κs = search needs

@@ -1,7 +1,7 @@
 -- `owner_answer` sets out what it is handed, case by case. Assumes nothing.
 use borrow.Author.Needs.{needs}
-use Rattle.irumbolai.proofs.owner_answer.Statement.{statement}
-use Rattle.irumbolai.proofs.owner_answer.Tie as tie
+use Rattle.irumbolai.proofs.places.owner_answer.Statement.{statement}
+use Rattle.irumbolai.proofs.places.owner_answer.Tie as tie
 
 enum-known-owned : tie.Need-enum-known-owned
 enum-known-owned c = search needs

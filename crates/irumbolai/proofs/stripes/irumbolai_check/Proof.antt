@@ -2,8 +2,8 @@
 use mathlib.Core.Path.{ap, _∙_}
 use borrow.Author.Needs.{needs}
 use Rattle.irumbolai.specs.Answers.{unflagged}
-use Rattle.irumbolai.proofs.irumbolai_check.Statement.{statement}
-use Rattle.irumbolai.proofs.irumbolai_check.Tie as tie
+use Rattle.irumbolai.proofs.stripes.irumbolai_check.Statement.{statement}
+use Rattle.irumbolai.proofs.stripes.irumbolai_check.Tie as tie
 
 check-requires : tie.Need-check-requires
 check-requires c κs = search needs
