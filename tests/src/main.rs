@@ -13,6 +13,7 @@ mod random;
 
 use random::Random;
 use std::process::ExitCode;
+use std::thread;
 
 /// Compares one part of the library with its model: what was compared, or the first difference.
 type Comparison = fn(&mut Random) -> Result<String, String>;
@@ -35,8 +36,12 @@ const PARTS: &[(&str, Comparison)] = &[
 fn main() -> ExitCode {
     let seed = random::seed();
     println!("seed {seed} (set {} for another)", random::SEED);
-    for (part, compare) in PARTS {
-        match compare(&mut Random::new(seed)) {
+    let running = PARTS.iter().map(|(part, compare)| {
+        let compared = thread::spawn(move || compare(&mut Random::new(seed)));
+        (part, compared)
+    });
+    for (part, compared) in running.collect::<Vec<_>>() {
+        match compared.join().expect("a part runs to its end") {
             Ok(compared) => println!("{part}: {compared}"),
             Err(difference) => {
                 eprintln!("{part}: DIFFERENT: {difference}");
