@@ -1,68 +1,15 @@
-// Runs the guards of the bench table and the published vectors through the compiled code, and prints a table.
-use libc::STDOUT_FILENO;
-ghost use mathlib.Core.Path.{_≡_};
-ghost use Rattle.figures.specs.Text.{digit, ending};
+// Runs the bench table and the published vectors through the compiled code, and prints what it finds.
+mod guards;
+mod places;
+mod scans;
+mod stripes;
+mod text;
 
 fn main() {
-    io::write_all(STDOUT_FILENO, b"guard of                     is\n");
-    published();
-    bench();
-}
-
-// The five examples of SBC-3, and the check value that catalogues of CRCs give.
-fn published() {
-    row(b"00, 32 times                 ", &[0x00; 32]);
-    row(b"FF, 32 times                 ", &[0xFF; 32]);
-    row(
-        b"00 to 1F                     ",
-        b"\x00\x01\x02\x03\x04\x05\x06\x07\x08\x09\x0A\x0B\x0C\x0D\x0E\x0F\x10\x11\x12\x13\x14\x15\x16\x17\x18\x19\x1A\x1B\x1C\x1D\x1E\x1F",
-    );
-    row(
-        b"FF FF, then 00, 30 times     ",
-        b"\xFF\xFF\x00\x00\x00\x00\x00\x00\x00\x00\x00\x00\x00\x00\x00\x00\x00\x00\x00\x00\x00\x00\x00\x00\x00\x00\x00\x00\x00\x00\x00\x00",
-    );
-    row(
-        b"FF down to E0                ",
-        b"\xFF\xFE\xFD\xFC\xFB\xFA\xF9\xF8\xF7\xF6\xF5\xF4\xF3\xF2\xF1\xF0\xEF\xEE\xED\xEC\xEB\xEA\xE9\xE8\xE7\xE6\xE5\xE4\xE3\xE2\xE1\xE0",
-    );
-    row(b"the characters 123456789     ", b"123456789");
-}
-
-// The guards of the bench table.
-fn bench() {
-    row(b"no bytes                     ", b"");
-    row(b"00                           ", b"\x00");
-    row(b"01                           ", b"\x01");
-    row(b"02                           ", b"\x02");
-    row(b"03                           ", b"\x03");
-    row(b"01 8B B7                     ", b"\x01\x8B\xB7");
-    row(b"01 8B B6                     ", b"\x01\x8B\xB6");
-}
-
-// One line: what is given, and its guard.
-fn row(given: &[u8], bytes: &[u8]) {
-    io::write_all(STDOUT_FILENO, given);
-    let found = ending(crc::guard(bytes));
-    io::write_all(STDOUT_FILENO, &found);
-}
-
-// Four digits and the end of the line.
-fn ending(guard: u16) -> [u8; 5]
-    ensures { λ r. ⌜ r ≡ ending guard ⌝ }
-{
-    [
-        digit(guard / 4096),
-        digit(guard / 256),
-        digit(guard / 16),
-        digit(guard),
-        b'\n',
-    ]
-}
-
-// The lowest hexadecimal digit, in upper case.
-fn digit(number: u16) -> u8
-    ensures { λ r. ⌜ r ≡ digit number ⌝ }
-{
-    let value = (number % 16) as u8;
-    if value < 10 { 48 + value } else { 55 + value }
+    guards::published();
+    guards::bench();
+    places::bench();
+    stripes::sealed();
+    stripes::torn();
+    scans::pieces();
 }

@@ -12,3 +12,10 @@ pub mod Restores
 pub mod Served
 pub mod Updates
 pub mod Updated
+pub mod Flags
+pub mod Injective
+pub mod Verdicts
+pub mod Scrubs
+pub mod Quick
+pub mod Torn
+pub mod Clean

@@ -8,7 +8,8 @@ use lib.ListN.{length, getD}
 use Rattle.layout.specs.Answers.{refuse, after, answer}
 use Rattle.layout.specs.Arrays.{within, stripeRefusal}
 use Rattle.layout.specs.declared.Array.{Array}
-use Rattle.tag.specs.Tags.{found, due, fits}
+use Rattle.tag.specs.Blocks.{tagOf}
+use Rattle.tag.specs.Tags.{found, due, fits, bad}
 use Rattle.stripe.specs.Tables.{table}
 use Rattle.stripe.specs.Stripes.{stripeLength, blockOf}
 use Rattle.stripe.specs.Formats.{Summary, summaryOf, t10}
@@ -34,15 +35,20 @@ lowest (false ∷ flags) = suc (lowest flags)
 unfoldable pub badMembers : Array → ℕ → Summary → List Bool
 badMembers a stripe s = table (a .members) (λ m. not (fits (found (getD (s .tags) m [])) (due a stripe m (getD (s .guards) m 0))))
 
--- which places of the combination are not zero
+-- which bytes are not zero, and which places of the combination are not
+unfoldable pub nonzero : List ℕ → List Bool
+nonzero bytes = map (λ x. not (eqb x 0)) bytes
+
 unfoldable pub tornPlaces : Summary → List Bool
-tornPlaces s = map (λ x. not (eqb x 0)) (s .combined)
+tornPlaces s = nonzero (s .combined)
 
 -- in numbers: 0 clean; 1 bad, with the lowest bad member and their count; 2 torn, with the lowest place. Bad goes before torn.
+unfoldable pub judgedBy : ℕ → ℕ → List Bool → List ℕ
+judgedBy member bads torn =
+    cond (ltb 0 bads) (1 ∷ member ∷ bads ∷ []) (cond (ltb 0 (count torn)) (2 ∷ lowest torn ∷ 0 ∷ []) (0 ∷ 0 ∷ 0 ∷ []))
+
 unfoldable pub judged : List Bool → List Bool → List ℕ
-judged bads torn =
-    cond (ltb 0 (count bads)) (1 ∷ lowest bads ∷ count bads ∷ [])
-    (cond (ltb 0 (count torn)) (2 ∷ lowest torn ∷ 0 ∷ []) (0 ∷ 0 ∷ 0 ∷ []))
+judged bads torn = judgedBy (lowest bads) (count bads) torn
 
 abbrev pub verdict : Array → ℕ → Summary → List ℕ
 verdict a stripe s = judged (badMembers a stripe s) (tornPlaces s)
@@ -57,6 +63,10 @@ verdictNumbers (Torn place) = 2 ∷ place ∷ 0 ∷ []
 abbrev pub scrubBlocks : Array → ℕ → List (List ℕ) → List ℕ
 scrubBlocks a stripe blocks = verdict a stripe (summaryOf t10 blocks)
 
+-- which members of a stripe in memory are bad
+unfoldable pub badBlocks : Array → ℕ → List ℕ → List Bool
+badBlocks a stripe bytes = table (a .members) (λ m. bad a stripe m (blockOf bytes m))
+
 unfoldable pub scrubRefusal : Array → ℕ → ℕ → ℕ
 scrubRefusal a stripe stripeBytes = after (stripeRefusal a stripe) (refuse (not (eqb stripeBytes (stripeLength a))) 6 0)
 
@@ -69,6 +79,10 @@ scrubbedNumbers (Refused number) = 0 ∷ number ∷ 0 ∷ 0 ∷ 0 ∷ []
 scrubbedNumbers (Found v) = 1 ∷ 0 ∷ verdictNumbers v
 
 -- ---- the quick scrub: the stored guards alone. In numbers: 0 where they combine to zero (fits), 1 where not (differs), and the combination
+
+-- the number in a block's guard bytes as they stand
+abbrev pub storedGuard : List ℕ → ℕ
+storedGuard block = found (tagOf block) .guard
 
 abbrev pub combinedGuards : List ℕ → ℕ
 combinedGuards [] = 0

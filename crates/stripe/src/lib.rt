@@ -1,10 +1,14 @@
 // The jobs on a whole stripe in memory, over the few steps that they share.
 mod rebuilding;
+mod scrubbing;
 mod sealing;
 mod serving;
 mod updating;
 
 pub use rebuilding::rebuild;
+pub use scrubbing::judge;
+pub use scrubbing::quick_scrub;
+pub use scrubbing::scrub;
 pub use sealing::seal;
 pub use serving::read;
 pub use updating::update;

@@ -3,14 +3,14 @@
 use Prim.Native.Nat.{ℕ, _+_}
 use mathlib.Core.Bool.{Bool, not, cond, _&&_}
 use mathlib.Core.List.{List, [], _∷_, _++_}
-use lib.Dec.{eqb}
-use lib.ListN.{length, take, drop}
+use lib.Dec.{leb, eqb}
+use lib.ListN.{length, take, drop, replicate}
 use Rattle.crc.specs.Guard.{guard}
 use Rattle.layout.specs.Answers.{refuse, after, answer}
 use Rattle.layout.specs.Places.{lowestBlock, blockAt, indexAt, isParity, referenceOf, ownerRefusal}
 use Rattle.layout.specs.declared.Array.{Array}
 use Rattle.tag.specs.Numbers.{bytesOf, numberOf}
-use Rattle.tag.specs.Blocks.{blockLength, dataOf, tagOf}
+use Rattle.tag.specs.Blocks.{tagLength, blockLength, dataOf, tagOf}
 use Rattle.tag.specs.declared.Fields.{Fields}
 use Rattle.tag.specs.declared.Checked.{Checked}
 use Rattle.tag.specs.declared.Checked.the-variants.{Refused, Good, Guard, Application, Reference}
@@ -21,6 +21,10 @@ tagBytes f = bytesOf 2 (f .guard) ++ bytesOf 2 (f .application) ++ bytesOf 4 (f 
 
 unfoldable pub found : List ℕ → Fields
 found tag = record { guard = numberOf (take 2 tag); application = numberOf (take 2 (drop 2 tag)); reference = numberOf (take 4 (drop 4 tag)) }
+
+-- the eight bytes at a place of some bytes; zeros where they do not all lie there
+unfoldable pub tagWithin : List ℕ → ℕ → List ℕ
+tagWithin bytes at = cond (leb (at + tagLength) (length bytes)) (take tagLength (drop at bytes)) (replicate tagLength 0)
 
 -- the application tag: 80h marks a parity block, then the volume
 unfoldable pub applicationDue : Array → ℕ → ℕ → ℕ

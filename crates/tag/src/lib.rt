@@ -5,7 +5,7 @@ ghost use mathlib.Core.Path.{_≡_};
 ghost use mathlib.Core.List.{_∷_};
 ghost use Prim.Native.Nat.{_+_, _*_, _≤_};
 ghost use lib.ListN.{length, take, drop};
-ghost use Rattle.tag.specs.Tags.{tagBytes, found, dueAt, firstWrong, checkRefusal, checkNumbers, checkedNumbers};
+ghost use Rattle.tag.specs.Tags.{tagBytes, tagWithin, found, dueAt, fits, firstWrong, checkRefusal, checkNumbers, checkedNumbers};
 
 // Bytes of data in a block, of tag after them, and of both.
 pub const DATA: usize = 512;
@@ -108,6 +108,20 @@ pub fn due(array: Array, stripe: u64, member: usize, guard: u16) -> Fields
     }
 }
 
+// Whether a tag is the one due.
+pub fn is_due(found: Fields, expected: Fields) -> bool
+    ensures { λ r. ⌜ r ≡ fits found expected ⌝ }
+{
+    let application = expected.application;
+    if found.guard != expected.guard {
+        return false;
+    }
+    if found.application != application {
+        return false;
+    }
+    found.reference == expected.reference
+}
+
 // The first field in which a tag differs from the one due.
 fn first_wrong(found: Fields, expected: Fields) -> Checked
     ensures { λ r. ⌜ checkedNumbers r ≡ 1 ∷ 0 ∷ firstWrong found expected ⌝ }
@@ -148,6 +162,20 @@ fn tag_at(bytes: &[u8], at: usize) -> [u8; 8]
         bytes[at + 6],
         bytes[at + 7],
     ]
+}
+
+// The same on any numbers: zeros where eight bytes do not lie there.
+pub fn tag_within(bytes: &[u8], at: usize) -> [u8; 8]
+    ensures { λ r. ⌜ r ≡ tagWithin (now (bytes .entry)) at ⌝ }
+{
+    let length = bytes.len();
+    if length < TAG {
+        return [0; 8];
+    }
+    if length - TAG < at {
+        return [0; 8];
+    }
+    tag_at(bytes, at)
 }
 
 // The refusal number of a check: the place's own, then 6 where the block has another length.

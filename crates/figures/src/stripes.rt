@@ -1,0 +1,158 @@
+// Stripes of the bench table: one sealed and updated, and two torn ones.
+use crate::text::four_digits;
+use crate::text::named;
+use crate::text::two_digits;
+use layout::Array;
+use libc::STDOUT_FILENO;
+use stripe::Compared;
+use stripe::Reading;
+use stripe::Scrubbed;
+use stripe::Verdict;
+
+// Three members, one stripe, volume 7.
+fn three() -> Array {
+    Array {
+        members: 3,
+        stripes: 1,
+        volume: 7,
+    }
+}
+
+// Data zero but for the last bytes 01 and 02; then block 0 updated to zeros.
+pub fn sealed() {
+    let mut content = [0u8; 1024];
+    content[511] = 1;
+    content[1023] = 2;
+    let mut bytes = [0u8; 1560];
+    io::write_all(STDOUT_FILENO, b"\nsealed stripe, tag of        is\n");
+    stripe::seal(three(), 0, &content, &mut bytes);
+    tags(&bytes);
+    reading(&bytes);
+    verdict(&bytes);
+    io::write_all(STDOUT_FILENO, b"block 0 updated, tag of      is\n");
+    let zeros = [0u8; 512];
+    stripe::update(three(), 0, &zeros, &mut bytes);
+    tags(&bytes);
+    reading(&bytes);
+    verdict(&bytes);
+}
+
+// All data zero, but for the end of the parity, whose tag fits: a difference of seventeen bits, then one of sixteen.
+pub fn torn() {
+    let content = [0u8; 1024];
+    let mut bytes = [0u8; 1560];
+    stripe::seal(three(), 0, &content, &mut bytes);
+    bytes[509] = 0x01;
+    bytes[510] = 0x8B;
+    bytes[511] = 0xB7;
+    io::write_all(STDOUT_FILENO, b"\nparity ends 01 8B B7\n");
+    verdict(&bytes);
+    quick(&bytes);
+    bytes[511] = 0xB6;
+    bytes[512] = 0x8B;
+    bytes[513] = 0xB7;
+    io::write_all(STDOUT_FILENO, b"parity ends 01 8B B6\n");
+    verdict(&bytes);
+    quick(&bytes);
+}
+
+// The tags of the three members.
+fn tags(bytes: &[u8]) {
+    tag(b"member 0                    ", bytes, 512);
+    tag(b"member 1                    ", bytes, 1032);
+    tag(b"member 2                    ", bytes, 1552);
+}
+
+// One line: a member, and the eight bytes of its tag.
+fn tag(member: &[u8], bytes: &[u8], at: u16) {
+    io::write_all(STDOUT_FILENO, member);
+    let from = at as usize;
+    byte(bytes, from);
+    byte(bytes, from + 1);
+    byte(bytes, from + 2);
+    byte(bytes, from + 3);
+    byte(bytes, from + 4);
+    byte(bytes, from + 5);
+    byte(bytes, from + 6);
+    byte(bytes, from + 7);
+    io::write_all(STDOUT_FILENO, b"\n");
+}
+
+fn byte(bytes: &[u8], at: usize) {
+    let text = two_digits(byte_at(bytes, at));
+    io::write_all(STDOUT_FILENO, &text);
+}
+
+// How block 0 reads, and its last byte.
+fn reading(bytes: &[u8]) {
+    let mut out = [0u8; 512];
+    io::write_all(STDOUT_FILENO, b"block 0 reads                ");
+    let read = stripe::read(three(), 0, bytes, &mut out);
+    match read {
+        Reading::Refused(number) => named(b"refusal ", number as u64),
+        Reading::Stored => named(b"stored, last byte ", wide(out[511])),
+        Reading::Rebuilt => named(b"rebuilt, last byte ", wide(out[511])),
+    }
+    io::write_all(STDOUT_FILENO, b"\n");
+}
+
+fn wide(byte: u8) -> u64 {
+    byte as u64
+}
+
+// The verdict of the full scrub.
+fn verdict(bytes: &[u8]) {
+    io::write_all(STDOUT_FILENO, b"scrub                        ");
+    let scrubbed = stripe::scrub(three(), 0, bytes);
+    match scrubbed {
+        Scrubbed::Refused(number) => named(b"refusal ", number as u64),
+        Scrubbed::Found(found) => finding(found),
+    }
+    io::write_all(STDOUT_FILENO, b"\n");
+}
+
+fn finding(found: Verdict) {
+    match found {
+        Verdict::Clean => {
+            io::write_all(STDOUT_FILENO, b"clean");
+        }
+        Verdict::Bad { member, count } => {
+            named(b"bad, member ", member as u64);
+            named(b" count ", count as u64);
+        }
+        Verdict::Torn { place } => named(b"torn, place ", place as u64),
+    }
+}
+
+// The guard that stands in a tag.
+fn stored(bytes: &[u8], at: u16) -> u16 {
+    let from = at as usize;
+    pair(byte_at(bytes, from), byte_at(bytes, from + 1))
+}
+
+fn byte_at(bytes: &[u8], at: usize) -> u8 {
+    if at < bytes.len() { bytes[at] } else { 0 }
+}
+
+fn pair(high: u8, low: u8) -> u16 {
+    high as u16 * 256 + low as u16
+}
+
+// The quick scrub of the three stored guards.
+fn quick(bytes: &[u8]) {
+    io::write_all(STDOUT_FILENO, b"quick scrub                  ");
+    let guards = [stored(bytes, 512), stored(bytes, 1032), stored(bytes, 1552)];
+    let compared = stripe::quick_scrub(&guards);
+    match compared {
+        Compared::Refused(number) => named(b"refusal ", number as u64),
+        Compared::Fits => {
+            io::write_all(STDOUT_FILENO, b"fits");
+        }
+        Compared::Differs { combination } => {
+            io::write_all(STDOUT_FILENO, b"differs ");
+            let text = four_digits(combination);
+            io::write_all(STDOUT_FILENO, &text);
+        }
+    }
+    io::write_all(STDOUT_FILENO, b"\n");
+}

@@ -1,0 +1,91 @@
+-- The quick scrub beside the scan: where the history is whole after some calls, and its verdict finds no bad member, the quick scrub of
+-- the stored guards fits if the data combine to zero, and differs if their combination has all its one bits within sixteen successive ones.
+-- Assumes nothing.
+use mathlib.Core.Path.{_≡_, refl, sym, ap, _∙_}
+use mathlib.Core.Logic.{_≢_}
+use mathlib.Core.Bool.{Bool, true, false, not, cond}
+use mathlib.Core.List.{List, [], _∷_, _++_, map, foldl}
+use Prim.Native.Nat.{ℕ, zero, suc, _≤_, _<_}
+use native.Mathlib.Nat.{le-antisymm}
+use native.Mathlib.Decide.{ℕ-discrete, decLt}
+use native.Mathlib.Omega.{arith}
+use lib.Dec.{leb, eqb, lit<}
+use lib.ListN.{length, getD, set, replicate}
+use lib.Seq.{getD-set-same, getD-set-other, set-out}
+use Rattle.xor.specs.Xors.{combination}
+use Rattle.crc.specs.Crc.{bitsOf, Bytes, Within}
+use Rattle.crc.specs.Guard.{guard}
+use Rattle.layout.specs.declared.Array.{Array}
+use Rattle.layout.proofs.Answers.{refuse-none}
+use Rattle.layout.proofs.Ranges.{Sound}
+use Rattle.tag.specs.Blocks.{dataLength, dataOf}
+use Rattle.tag.proofs.Numbers.{bytes-joined}
+use Rattle.stripe.specs.Tables.{all}
+use Rattle.stripe.specs.Formats.{t10, whole}
+use Rattle.stripe.specs.Verdicts.{verdict, scrubBlocks, storedGuard, quickNumbers}
+use Rattle.stripe.proofs.Quick.{Whole, fits-where-zero, differs-within}
+use Rattle.scan.specs.History.{Call, piece, finish, begun, kept, pieceNumber, finishNumber}
+use Rattle.scan.proofs.Finishes.{all-whole}
+use Rattle.scan.proofs.Simulation.{held-follows-history}
+use Rattle.scan.proofs.Lasting.{historyOf}
+
+-- what is handed in are bytes
+abbrev pub ByteCalls : List Call → Type 0
+ByteCalls [] = Unit
+ByteCalls (piece member bytes ∷ calls) = Bytes bytes × ByteCalls calls
+ByteCalls (finish ∷ calls) = ByteCalls calls
+
+module _ (a : Array) (stripe : ℕ) where
+  grown-bytes : (history : List (List ℕ)) (member : ℕ) (bytes : List ℕ) → ((i : ℕ) → Bytes (getD history i [])) → Bytes bytes
+      → (i : ℕ) → Bytes (getD (set history member (getD history member [] ++ bytes)) i [])
+  grown-bytes history member bytes h hb i = go (ℕ-discrete i member) (decLt member (length history))
+    where
+      go : Dec (i ≡ member) → Dec (member < length history) → Bytes (getD (set history member (getD history member [] ++ bytes)) i [])
+      go (yes e) (yes l) = rw (e, getD-set-same history member (getD history member [] ++ bytes) [] l) (bytes-joined (getD history member []) bytes (h member) hb)
+      go (yes e) (no l) = rw (set-out history member (getD history member [] ++ bytes) (omega arith)) (h i)
+      go (no e) l = rw (getD-set-other history member i (getD history member [] ++ bytes) [] e) (h i)
+
+  kept-bytes : (flag : Bool) (history : List (List ℕ)) (member : ℕ) (bytes : List ℕ) → ((i : ℕ) → Bytes (getD history i [])) → Bytes bytes
+      → (i : ℕ) → Bytes (getD (cond flag (set history member (getD history member [] ++ bytes)) history) i [])
+  kept-bytes true history member bytes h hb = grown-bytes history member bytes h hb
+  kept-bytes false history member bytes h hb = h
+
+  history-bytes : (calls : List Call) (history : List (List ℕ)) → ByteCalls calls → ((i : ℕ) → Bytes (getD history i []))
+      → (i : ℕ) → Bytes (getD (foldl (kept (whole t10) (a .members) (scrubBlocks a stripe)) history calls) i [])
+  unfolding kept
+  history-bytes [] history c h = h
+  history-bytes (piece member bytes ∷ calls) history c h =
+      history-bytes calls (kept (whole t10) (a .members) (scrubBlocks a stripe) history (piece member bytes)) (c .1)
+      (kept-bytes (eqb (pieceNumber (whole t10) (a .members) (scrubBlocks a stripe) history member bytes) 0) history member bytes h (c .0))
+  history-bytes (finish ∷ calls) history c h = history-bytes calls history c h
+
+  none-taken : (n i : ℕ) → getD (begun n) i [] ≡ []
+  none-taken zero i = refl
+  none-taken (suc n) zero = refl
+  none-taken (suc n) (suc i) = none-taken n i
+
+  -- a finish that the history accepts: its blocks are whole
+  pub whole-history : Sound a → (calls : List Call) → ByteCalls calls
+      → finishNumber (whole t10) (a .members) (scrubBlocks a stripe) (historyOf a stripe calls) ≡ 0 → Whole a (historyOf a stripe calls)
+  whole-history sound calls bytes e =
+      let history = historyOf a stripe calls in
+      let follows = held-follows-history t10 (a .members) (verdict a stripe) 16 (sound .many) calls in
+      let every = refuse-none (all (map (λ taken. leb (whole t10) (length taken)) history)) 7 0 e .0 in
+      record {
+        all-there = follows .members;
+        long = λ i h. le-antisymm (follows .fits i) (all-whole (whole t10) history every i h);
+        bytes = history-bytes calls (begun (a .members)) bytes (λ i. rw (none-taken (a .members) i) (λ k. lit< tt));
+      }
+
+  module _ (sound : Sound a) (calls : List Call) (bytes : ByteCalls calls)
+      (accepted : finishNumber (whole t10) (a .members) (scrubBlocks a stripe) (historyOf a stripe calls) ≡ 0)
+      (none-bad : getD (scrubBlocks a stripe (historyOf a stripe calls)) 0 0 ≢ 1) where
+    pub quick-fits-beside : combination dataLength (map dataOf (historyOf a stripe calls)) ≡ replicate dataLength 0
+        → quickNumbers (map storedGuard (historyOf a stripe calls)) ≡ 1 ∷ 0 ∷ 0 ∷ 0 ∷ []
+    quick-fits-beside = fits-where-zero a stripe (historyOf a stripe calls) sound (whole-history sound calls bytes accepted) none-bad
+
+    pub quick-differs-beside : combination dataLength (map dataOf (historyOf a stripe calls)) ≢ replicate dataLength 0
+        → Within 16 (bitsOf (combination dataLength (map dataOf (historyOf a stripe calls)))) (bitsOf (replicate dataLength 0))
+        → (guard (combination dataLength (map dataOf (historyOf a stripe calls))) ≢ 0)
+        × (quickNumbers (map storedGuard (historyOf a stripe calls)) ≡ 1 ∷ 0 ∷ 1 ∷ guard (combination dataLength (map dataOf (historyOf a stripe calls))) ∷ [])
+    quick-differs-beside = differs-within a stripe (historyOf a stripe calls) sound (whole-history sound calls bytes accepted) none-bad

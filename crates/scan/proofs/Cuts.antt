@@ -1,0 +1,76 @@
+-- A piece cut in data and tag by the code's numbers leaves what the definitions say: the state advanced, and the work buffer.
+-- Assumes nothing.
+use mathlib.Core.Path.{_≡_, refl, ap, ap₂, _∙_}
+use mathlib.Core.List.{List, [], _∷_, _++_}
+use Prim.Native.Nat.{ℕ, zero, suc, _+_, _-_, _*_, _≤_, _<_, min}
+use native.Mathlib.Nat.{le-of-suc-le-suc, not-suc-le-zero, zero-min, min-zero, suc-min-suc}
+use native.Mathlib.Omega.{arith}
+use lib.ListN.{length, getD, take, drop, set, length-take, length-drop, take-append-drop}
+use lib.Seq.{take-all, sets}
+use Rattle.xor.specs.Xors.{xors}
+use Rattle.crc.specs.Guard.{run}
+use Rattle.stripe.specs.Formats.{t10}
+use Rattle.stripe.proofs.Puts.{sets-turn}
+use Rattle.scan.specs.declared.Scan.{Scan}
+use Rattle.scan.specs.Scans.{dataOfPiece, tagOfPiece, positions, registers, tags, buffer, advanced}
+
+take-min : (k : ℕ) (l : List ℕ) → take (min k (length l)) l ≡ take k l
+take-min zero l = rw zero-min
+take-min (suc k) [] = rw min-zero
+take-min (suc k) (x ∷ l) = rw (suc-min-suc, take-min k l)
+
+drop-min : (k : ℕ) (l : List ℕ) → drop (min k (length l)) l ≡ drop k l
+drop-min zero l = rw zero-min
+drop-min (suc k) [] = rw min-zero
+drop-min (suc k) (x ∷ l) = rw (suc-min-suc, drop-min k l)
+
+-- a part of a buffer with bytes added, and what follows the part, is the buffer with the bytes added
+xors-part : (w b : List ℕ) (k : ℕ) → length b ≤ k → xors (take k w) b ++ drop k w ≡ xors w b
+unfolding xors
+xors-part [] b zero h = refl
+xors-part [] b (suc k) h = refl
+xors-part (x ∷ w) [] zero h = refl
+xors-part (x ∷ w) [] (suc k) h = ap (λ (l : List ℕ). x ∷ l) (take-append-drop k w)
+xors-part (x ∷ w) (y ∷ b) zero h = absurd (not-suc-le-zero h)
+xors-part (x ∷ w) (y ∷ b) (suc k) h = rw (xors-part w b k (le-of-suc-le-suc h))
+
+-- a turn of the loop of stores, whose place the code finds from the position
+pub store-turn : (t : List ℕ) (at i place : ℕ) (bytes : List ℕ) → i < length bytes → place ≡ at + i
+    → sets (set t place (getD bytes i 0)) (at + (i + 1)) (drop (i + 1) bytes) ≡ sets t (at + i) (drop i bytes)
+store-turn t at i place bytes h e =
+    ap (λ (k : ℕ). sets (set t k (getD bytes i 0)) (at + (i + 1)) (drop (i + 1) bytes)) e ∙ sets-turn t at i bytes h
+
+-- a state with other positions, registers and tag bytes
+abbrev pub holding : Scan → List ℕ → List ℕ → List ℕ → Scan
+holding s at register tag = record { array = s .array; stripe = s .stripe; at = at; register = register; tag = tag }
+
+module _ (s : Scan) (m : ℕ) (bytes : List ℕ) (room d : ℕ) (left : room ≡ 512 - getD (s .at) m 0) (cut : d ≡ min room (length bytes)) where
+  data-part : take d bytes ≡ take (512 - getD (s .at) m 0) bytes
+  data-part = rw (cut, left) (take-min (512 - getD (s .at) m 0) bytes)
+
+  tag-part : take (length bytes - d) (drop d bytes) ≡ drop (512 - getD (s .at) m 0) bytes
+  tag-part = take-all (length bytes - d) (drop d bytes) (simp length-drop (omega arith)) ∙ rw (cut, left) (drop-min (512 - getD (s .at) m 0) bytes)
+
+  pub state-by-cut : (register : ℕ) (tag : List ℕ) → register ≡ run (getD (s .register) m 0) (take d bytes)
+      → tag ≡ sets (s .tag) (8 * m + (getD (s .at) m 0 + room - 512)) (take (length bytes - d) (drop d bytes))
+      → holding s (set (s .at) m (getD (s .at) m 0 + length bytes)) (set (s .register) m register) tag ≡ advanced s m bytes
+  unfolding advanced positions registers tags dataOfPiece tagOfPiece
+  state-by-cut register tag r t =
+      let place : getD (s .at) m 0 + room - 512 ≡ getD (s .at) m 0 - 512 = omega arith in
+      ap₂ (λ (x : ℕ) (y : List ℕ). holding s (set (s .at) m (getD (s .at) m 0 + length bytes)) (set (s .register) m x) y)
+      (r ∙ ap (run (getD (s .register) m 0)) data-part)
+      (t ∙ ap₂ (λ (k : ℕ) (l : List ℕ). sets (s .tag) (8 * m + k) l) place tag-part)
+
+  pub work-by-cut : (w y : List ℕ) (from : ℕ) → length w ≡ 512 → from ≡ 512 - room
+      → y ≡ xors (take (from + d - from) (drop from w)) (take d bytes)
+      → take from w ++ (y ++ drop (from + d - from) (drop from w)) ≡ buffer t10 (s .at) w m bytes
+  unfolding buffer dataOfPiece
+  work-by-cut w y from long f e =
+      let same : from ≡ min (getD (s .at) m 0) (length w) = omega arith in
+      let size : from + d - from ≡ d = omega arith in
+      let short : length (take d bytes) ≤ d = simp length-take (omega arith) in
+      let front : take from w ≡ take (getD (s .at) m 0) w = rw same (take-min (getD (s .at) m 0) w) in
+      let back : drop from w ≡ drop (getD (s .at) m 0) w = rw same (drop-min (getD (s .at) m 0) w) in
+      let added : y ++ drop (from + d - from) (drop from w) ≡ xors (drop from w) (take d bytes) =
+      rw (e, size) (xors-part (drop from w) (take d bytes) d short) in
+      ap₂ (λ (a b : List ℕ). a ++ b) front (added ∙ ap₂ xors back data-part)

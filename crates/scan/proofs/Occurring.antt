@@ -1,0 +1,70 @@
+-- Every list of calls has a run, from any state and any buffer: what is said of runs is said of every list of calls.
+-- Assumes nothing.
+use mathlib.Core.Path.{_≡_, refl, sym, ap}
+use mathlib.Core.Bool.{Bool, true, false}
+use mathlib.Core.List.{List, [], _∷_}
+use Prim.Native.Nat.{ℕ, zero, suc}
+use lib.Dec.{ltb}
+use lib.ListN.{length}
+use Rattle.stripe.specs.declared.Verdict.{Verdict}
+use Rattle.stripe.specs.declared.Verdict.the-variants.{Clean, Bad, Torn}
+use Rattle.stripe.specs.declared.Scrubbed.{Scrubbed}
+use Rattle.stripe.specs.declared.Scrubbed.the-variants.{Refused, Found}
+use Rattle.stripe.specs.Formats.{t10}
+use Rattle.stripe.specs.Verdicts.{count, lowest, badMembers, tornPlaces, judgedBy, judged, verdictNumbers, scrubbedNumbers}
+use Rattle.scan.specs.declared.Scan.{Scan}
+use Rattle.scan.specs.declared.Taken.{Taken}
+use Rattle.scan.specs.History.{Call, piece, finish}
+use Rattle.scan.specs.Scans.{heldSummary, pieceRefusal, pieceState, pieceWork, finishRefusal, finishNumbers}
+use Rattle.scan.specs.Runs.{Run, ended, pieced, finished}
+use Rattle.scan.proofs.Refusals.{refused-verdict}
+
+record Judged (bads torn : List Bool) : Type 0 where
+  verdict : Verdict
+  same : verdictNumbers verdict ≡ judged bads torn
+
+some-verdict : (bads torn : List Bool) → Judged bads torn
+unfolding judged judgedBy
+some-verdict bads torn = go (ltb 0 (count bads)) (ltb 0 (count torn)) refl refl
+  where
+    go : (f g : Bool) → ltb 0 (count bads) ≡ f → ltb 0 (count torn) ≡ g → Judged bads torn
+    go true g e d = record { verdict = Bad (lowest bads) (count bads); same = rw e }
+    go false true e d = record { verdict = Torn (lowest torn); same = rw (e, d) }
+    go false false e d = record { verdict = Clean; same = rw (e, d) }
+
+record Answered (s : Scan) (w : List ℕ) : Type 0 where
+  given : Scrubbed
+  same : scrubbedNumbers given ≡ finishNumbers s w
+
+some-finish : (s : Scan) (w : List ℕ) → Answered s w
+unfolding finishNumbers
+some-finish s w = go (finishRefusal s (length w)) refl
+  where
+    go : (number : ℕ) → finishRefusal s (length w) ≡ number → Answered s w
+    go zero e =
+        let held = heldSummary t10 (s .array .members) (s .register) (s .tag) w in
+        let v = some-verdict (badMembers (s .array) (s .stripe) held) (tornPlaces held) in
+        record { given = Found (v .verdict); same = rw e (ap (λ (l : List ℕ). 1 ∷ 0 ∷ l) (v .same)) }
+    go (suc number) e =
+        record {
+          given = Refused (suc number);
+          same = rw e (sym (refused-verdict (s .array) (s .stripe) number (heldSummary t10 (s .array .members) (s .register) (s .tag) w)));
+        }
+
+-- a run of these calls
+pub record Ran (s : Scan) (w : List ℕ) (calls : List Call) : Type 0 where
+  pub xs : List (List ℕ)
+  pub last : Scan
+  pub left : List ℕ
+  pub run : Run s w calls xs last left
+
+pub every-list-runs : (calls : List Call) (s : Scan) (w : List ℕ) → Ran s w calls
+every-list-runs [] s w = record { xs = []; last = s; left = w; run = ended }
+every-list-runs (piece member bytes ∷ calls) s w =
+    let r : Taken = record { refusal = pieceRefusal s member (length bytes) (length w); state = pieceState s member bytes (length w) } in
+    let rest = every-list-runs calls (pieceState s member bytes (length w)) (pieceWork s member bytes w) in
+    record { xs = (r .refusal ∷ []) ∷ rest .xs; last = rest .last; left = rest .left; run = pieced r refl refl refl (rest .run) }
+every-list-runs (finish ∷ calls) s w =
+    let r = some-finish s w in
+    let rest = every-list-runs calls s w in
+    record { xs = scrubbedNumbers (r .given) ∷ rest .xs; last = rest .last; left = rest .left; run = finished (r .given) (r .same) (rest .run) }

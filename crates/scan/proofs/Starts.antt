@@ -1,0 +1,30 @@
+-- An accepted start: its numbers are in range, and it leaves what follows from a history with nothing in it.
+-- Assumes nothing.
+use mathlib.Core.Path.{_≡_, refl}
+use mathlib.Core.List.{List}
+use Prim.Native.Nat.{ℕ, zero, suc}
+use lib.ListN.{length}
+use Rattle.layout.specs.Answers.{after}
+use Rattle.layout.specs.Arrays.{stripeRefusal}
+use Rattle.layout.specs.declared.Array.{Array}
+use Rattle.layout.proofs.Ranges.{stripe-sound}
+use Rattle.stripe.specs.Formats.{t10}
+use Rattle.scan.specs.declared.Scan.{Scan}
+use Rattle.scan.specs.History.{begun}
+use Rattle.scan.specs.Scans.{startRefusal, emptyScan, startState, startWork}
+use Rattle.scan.proofs.Follows.{fresh-follows}
+use Rattle.scan.proofs.States.{Holds}
+
+after-none : (x y : ℕ) → after x y ≡ 0 → x ≡ 0
+after-none zero y e = refl
+after-none (suc x) y e = e
+
+module _ (a : Array) (stripe : ℕ) (old : List ℕ) (accepted : startRefusal a stripe (length old) ≡ 0) where
+  pub start-sound : stripeRefusal a stripe ≡ 0
+  unfolding startRefusal
+  start-sound = after-none (stripeRefusal a stripe) _ accepted
+
+  pub start-holds : {s : Scan} {w : List ℕ} → s ≡ startState a stripe (length old) → w ≡ startWork a stripe old → Holds a stripe s w (begun (a .members))
+  unfolding startState startWork emptyScan
+  start-holds e f =
+      rw (e, f, accepted) record { array = refl; place = refl; follows = fresh-follows t10 16 (a .members) (stripe-sound a stripe start-sound .array .many) }

@@ -1,0 +1,76 @@
+-- `scan::finishing::all_whole` meets its contract. The invariant: whether all positions still to come stand at the end is whether all do.
+-- Assumes nothing.
+use mathlib.Core.Path.{_≡_, refl, sym, _∙_}
+use mathlib.Core.Bool.{true, false}
+use mathlib.Core.List.{map}
+use Prim.Native.Nat.{ℕ, _-_, _≤_}
+use native.Mathlib.Omega.{arith}
+use borrow.Author.Needs.{needs}
+use borrow.Author.Tests.{eq-eqb, ne-eqb}
+use lib.Dec.{eqb}
+use lib.ListN.{length, take, drop}
+use Rattle.stripe.specs.Tables.{all}
+use Rattle.scan.specs.Steps.{allWhole}
+use Rattle.scan.proofs.Fitness.{all-turn, all-end}
+use Rattle.scan.proofs.finishing.all_whole.Statement.{statement}
+use Rattle.scan.proofs.finishing.all_whole.Tie as tie
+
+abbrev Inv-loop : tie.InvT-loop
+Inv-loop members at member₀ member = all (map (λ p. eqb p 520) (drop member (take members at))) ≡ allWhole members at
+
+abbrev μ-loop : tie.MeasureT-loop
+μ-loop members at member₀ member = members - member
+
+loop-holds : tie.Need-loop-holds Inv-loop μ-loop
+loop-holds c = refl
+
+mul-if1 : tie.Need-mul-if1 Inv-loop μ-loop
+mul-if1 c = search needs
+
+array-read-if1 : tie.Need-array-read-if1 Inv-loop μ-loop
+array-read-if1 c = search needs
+
+cast-if1 : tie.Need-cast-if1 Inv-loop μ-loop
+cast-if1 c = search needs
+
+returns : tie.Need-returns Inv-loop μ-loop
+returns c =
+    let l = c .before .before in
+    let a = l .before .args in
+    let long : length (a .t1) ≡ 16 = search needs in
+    sym (all-turn (λ p. eqb p 520) (a .t1) (a .members) (l .loop .member) false (omega arith) (omega arith) (ne-eqb _ _ (c .if1 .taken))) ∙ l .loop .inv
+
+add-member : tie.Need-add-member Inv-loop μ-loop
+add-member c = search needs
+
+loop-less : tie.Need-loop-less Inv-loop μ-loop
+loop-less c = search needs
+
+loop-again : tie.Need-loop-again Inv-loop μ-loop
+loop-again c =
+    let l = c .before .before in
+    let a = l .before .args in
+    let long : length (a .t1) ≡ 16 = search needs in
+    sym (all-turn (λ p. eqb p 520) (a .t1) (a .members) (l .loop .member) true (omega arith) (omega arith) (eq-eqb _ _ (c .if1 .left))) ∙ l .loop .inv
+
+returns-2 : tie.Need-returns-2 Inv-loop μ-loop
+returns-2 c =
+    let l = c .before in
+    let a = l .before .args in
+    sym (all-end (λ p. eqb p 520) (a .t1) (a .members) (l .loop .member) (omega arith)) ∙ l .loop .inv
+
+pub all-whole-spec : {M : Type 1} → statement M
+all-whole-spec =
+    tie.close
+    (tie.spec
+    Inv-loop
+    μ-loop
+    loop-holds
+    mul-if1
+    array-read-if1
+    cast-if1
+    returns
+    add-member
+    loop-less
+    loop-again
+    returns-2)

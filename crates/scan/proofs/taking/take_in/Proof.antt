@@ -1,0 +1,140 @@
+-- `scan::taking::take_in` meets its contract: one cut, and what follows from it for the state and the work buffer.
+-- Assumes nothing.
+use mathlib.Core.Path.{refl}
+use Prim.Native.Nat.{_-_}
+use native.Mathlib.Omega.{arith}
+use borrow.Author.Needs.{needs}
+use lib.ListN.{length-take}
+use Rattle.scan.proofs.Cuts.{state-by-cut, work-by-cut}
+use Rattle.scan.proofs.taking.take_in.Statement.{statement}
+use Rattle.scan.proofs.taking.take_in.Tie as tie
+
+mul-position : tie.Need-mul-position
+mul-position c = search needs
+
+element-copy-out-position : tie.Need-element-copy-out-position
+element-copy-out-position c = search needs
+
+cast-position : tie.Need-cast-position
+cast-position c = search needs
+
+data-room-requires : tie.Need-data-room-requires
+data-room-requires c κs = search needs
+
+least-requires : tie.Need-least-requires
+least-requires c κs = search needs
+
+sub-from : tie.Need-sub-from
+sub-from c = search needs
+
+add-end : tie.Need-add-end
+add-end c = search needs
+
+slice-aggregate-head : tie.Need-slice-aggregate-head
+slice-aggregate-head c = simp length-take (omega arith)
+
+sub-tail : tie.Need-sub-tail
+sub-tail c = search needs
+
+part-tail-start : tie.Need-part-tail-start
+part-tail-start c = search needs
+
+part-tail-end : tie.Need-part-tail-end
+part-tail-end c = search needs
+
+add-next : tie.Need-add-next
+add-next c = search needs
+
+cast-next : tie.Need-cast-next
+cast-next c = search needs
+
+mul-next : tie.Need-mul-next
+mul-next c = search needs
+
+element-write-next : tie.Need-element-write-next
+element-write-next c = search needs
+
+mul-run : tie.Need-mul-run
+mul-run c = search needs
+
+element-copy-out-run : tie.Need-element-copy-out-run
+element-copy-out-run c = search needs
+
+run-requires : tie.Need-run-requires
+run-requires c κs = search needs
+
+mul-next-2 : tie.Need-mul-next-2
+mul-next-2 c = search needs
+
+element-write-next-2 : tie.Need-element-write-next-2
+element-write-next-2 c = search needs
+
+sub-xor-into : tie.Need-sub-xor-into
+sub-xor-into c = search needs
+
+part-xor-into-start : tie.Need-part-xor-into-start
+part-xor-into-start c = search needs
+
+part-xor-into-end : tie.Need-part-xor-into-end
+part-xor-into-end c = search needs
+
+xor-into-requires : tie.Need-xor-into-requires
+xor-into-requires c κs = search needs
+
+add-store : tie.Need-add-store
+add-store c = search needs
+
+store-requires : tie.Need-store-requires
+store-requires c κs = search needs
+
+same-length : tie.Need-same-length
+same-length c = search needs
+
+returns : tie.Need-returns
+returns c =
+    let x = c .before .before .before .before in
+    let r = x .before .before in
+    let l = r .before .before .before .before in
+    let d = l .before in
+    let s = d .before .before .before .before in
+    let a = s .args in
+    let room = d .data-room .result in
+    let cut = l .least .result in (
+      state-by-cut (a .t1) (a .member) (a .bytes .now) room cut (d .data-room .ensures) (l .least .ensures)
+          (r .run .result) (c .store .last .0) (r .run .ensures) (c .store .ensures),
+      work-by-cut (a .t1) (a .member) (a .bytes .now) room cut (d .data-room .ensures) (l .least .ensures)
+          (a .work .now) (x .xor-into .last .0) (512 - room) (s .pre .1 .1) refl (x .xor-into .ensures),
+    )
+
+pub take-in-spec : {M : Type 1} → statement M
+take-in-spec =
+    tie.close
+    (tie.spec
+    mul-position
+    element-copy-out-position
+    cast-position
+    data-room-requires
+    least-requires
+    sub-from
+    add-end
+    slice-aggregate-head
+    sub-tail
+    part-tail-start
+    part-tail-end
+    add-next
+    cast-next
+    mul-next
+    element-write-next
+    mul-run
+    element-copy-out-run
+    run-requires
+    mul-next-2
+    element-write-next-2
+    sub-xor-into
+    part-xor-into-start
+    part-xor-into-end
+    xor-into-requires
+    add-store
+    store-requires
+    same-length
+    returns)

@@ -1,0 +1,100 @@
+// A scan ends in the full scrub's verdict.
+ghost use mathlib.Core.Path.{_≡_};
+ghost use Prim.Native.Nat.{_*_, _≤_};
+ghost use lib.ListN.{length, getD};
+ghost use Rattle.layout.specs.Arrays.{stripeRefusal};
+ghost use Rattle.layout.specs.Places.{ownerRefusal};
+ghost use Rattle.stripe.specs.Verdicts.{count, lowest, scrubbedNumbers};
+ghost use Rattle.scan.specs.Scans.{finishRefusal, finishNumbers};
+ghost use Rattle.scan.specs.Steps.{allWhole, goodHeld, badHeld};
+use crate::Scan;
+use crate::fit;
+use stripe::Scrubbed;
+use tag::BLOCK;
+use tag::DATA;
+use tag::TAG;
+
+// The bad members of a stripe: the lowest of them, and how many they are.
+struct BadMembers {
+    lowest: usize,
+    count: usize,
+}
+
+// Whether all of the first positions stand at the end of a block.
+fn all_whole(at: [u16; 16], members: usize) -> bool
+    requires { ⌜ members ≤ 16 ⌝ }
+    ensures { λ r. ⌜ r ≡ allWhole members at ⌝ }
+{
+    let mut member: usize = 0;
+    while member < members {
+        if at[member] as usize != BLOCK {
+            return false;
+        }
+        member += 1;
+    }
+    true
+}
+
+// The refusal number of a finish: an unfit state, a work buffer of another length, a member that lacks bytes.
+fn finish_refusal(state: Scan, length: usize) -> u8
+    ensures { λ r. ⌜ r ≡ finishRefusal state length ⌝ }
+{
+    let members = state.array.members;
+    let at = state.at;
+    if !fit(state) {
+        return 4;
+    }
+    if length != DATA {
+        return 6;
+    }
+    if !all_whole(at, members) {
+        return 8;
+    }
+    0
+}
+
+// Whether the tag bytes held of a member are those due to its register.
+fn is_good(state: Scan, member: usize) -> bool
+    requires { ⌜ ownerRefusal (state .array) (state .stripe) member ≡ 0 ⌝ }
+    ensures { λ r. ⌜ r ≡ goodHeld state member ⌝ }
+{
+    let array = state.array;
+    let stripe = state.stripe;
+    let register = state.register;
+    let bytes = state.tag;
+    let at = TAG * member;
+    let expected = tag::due(array, stripe, member, register[member]);
+    tag::is_due(tag::found(tag::tag_within(&bytes, at)), expected)
+}
+
+// The bad members, found from the highest down; the lowest is the number of members where none is bad.
+fn bad_members(state: Scan) -> BadMembers
+    requires { ⌜ stripeRefusal (state .array) (state .stripe) ≡ 0 ⌝ }
+    ensures { λ r. ⌜ r .lowest ≡ lowest (badHeld state) ⌝ }
+    ensures { λ r. ⌜ r .count ≡ count (badHeld state) ⌝ }
+{
+    let members = state.array.members;
+    let mut lowest = members;
+    let mut count: usize = 0;
+    let mut member = members;
+    while 0 < member {
+        member -= 1;
+        if !is_good(state, member) {
+            lowest = member;
+            count += 1;
+        }
+    }
+    BadMembers { lowest, count }
+}
+
+// Ends a scan: the verdict by what the state and the work buffer hold. It changes nothing, and may be asked again.
+pub fn finish(state: Scan, work: &[u8]) -> Scrubbed
+    ensures { λ r. ⌜ scrubbedNumbers r ≡ finishNumbers state (now (work .entry)) ⌝ }
+{
+    let refusal = finish_refusal(state, work.len());
+    if refusal != 0 {
+        return Scrubbed::Refused(refusal);
+    }
+    let bad = bad_members(state);
+    Scrubbed::Found(stripe::judge(bad.lowest, bad.count, work))
+}

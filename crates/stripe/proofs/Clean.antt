@@ -1,0 +1,38 @@
+-- What scrubs clean: a sealed stripe, and one that was clean after an update or a rebuild.
+-- Assumes nothing.
+use mathlib.Core.Path.{_≡_, refl, sym, ap, _∙_}
+use mathlib.Core.Logic.{_≢_}
+use mathlib.Core.Bool.{true}
+use mathlib.Core.List.{List, [], _∷_}
+use Prim.Native.Nat.{ℕ, _*_, _<_}
+use lib.ListN.{length}
+use Rattle.layout.specs.Arrays.{dataMembers, stripeRefusal}
+use Rattle.layout.specs.Places.{stripeOf}
+use Rattle.layout.specs.declared.Array.{Array}
+use Rattle.layout.proofs.Ranges.{SoundStripe, sound-stripe}
+use Rattle.stripe.specs.Stripes.{stripeLength}
+use Rattle.stripe.specs.Jobs.{sealed, updateRefusal, updateBytes}
+use Rattle.stripe.specs.Verdicts.{scrubNumbers, scrubRefusal}
+use Rattle.stripe.proofs.Scrubs.{scrub-clean, sound-scrub, scrub-sound}
+use Rattle.stripe.proofs.Seals.{length-sealed}
+use Rattle.stripe.proofs.Sealed.{sealed-good, sealed-parity}
+use Rattle.stripe.proofs.Updated.{update-keeps-length, update-keeps-clean}
+
+-- the answer that a stripe is clean: done, no refusal, no bad member, no torn place
+abbrev pub clean : List ℕ
+clean = 1 ∷ 0 ∷ 0 ∷ 0 ∷ 0 ∷ []
+
+pub sealed-clean : (a : Array) (stripe : ℕ) (content : List ℕ) → SoundStripe a stripe → length content ≡ 512 * dataMembers a → a .volume < 256
+    → scrubNumbers a stripe (sealed a stripe content) ≡ clean
+sealed-clean a stripe content sound long small =
+    scrub-clean a stripe (sealed a stripe content) (sound-scrub a stripe (length (sealed a stripe content)) (sound-stripe a stripe sound) (length-sealed a stripe content sound long)) .1
+    (sealed-good a stripe content sound long small, sealed-parity a stripe content sound long)
+
+pub update-stays-clean : (a : Array) (block : ℕ) (new bytes : List ℕ) → updateRefusal a block (length new) bytes ≡ 0 → a .volume < 256
+    → scrubRefusal a (stripeOf a block) (length bytes) ≡ 0 → scrubNumbers a (stripeOf a block) bytes ≡ clean
+    → scrubNumbers a (stripeOf a block) (updateBytes a block new bytes) ≡ clean
+update-stays-clean a block new bytes done small taken was =
+    let s = stripeOf a block in
+    let before = scrub-clean a s bytes taken .0 was in
+    let still : scrubRefusal a s (length (updateBytes a block new bytes)) ≡ 0 = ap (scrubRefusal a s) (update-keeps-length a block new bytes done) ∙ taken in
+    scrub-clean a s (updateBytes a block new bytes) still .1 (update-keeps-clean a block new bytes done small (before .0) (before .1))

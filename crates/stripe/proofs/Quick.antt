@@ -1,0 +1,183 @@
+-- The quick scrub on the stored guards of whole blocks: where no member is bad it sees the guard of the blocks' combination, so it fits
+-- where the data combine to zero, and differs wherever they do not and all one bits lie within sixteen successive bits.
+-- Assumes nothing.
+use mathlib.Core.Path.{_≡_, refl, sym, ap, ap₂, _∙_}
+use mathlib.Core.Bool.{Bool, true, false, not, cond, _&&_}
+use mathlib.Core.List.{List, [], _∷_, map}
+use mathlib.Core.Logic.{_≢_}
+use Prim.Native.Nat.{ℕ, zero, suc, _+_, _≤_, _<_, suc-le-suc}
+use native.Mathlib.Nat.{zero-lt-suc, le-of-suc-le-suc, not-suc-le-zero}
+use native.Mathlib.Numerals.{add-one}
+use native.Mathlib.Omega.{arith}
+use borrow.Author.Tests.{ne-eqb, lt-leb}
+use lib.Bits.{bitXor, xor-self, xor-zero-r}
+use lib.Dec.{leb, eqb, lit<}
+use lib.ListN.{length, getD, drop, replicate, length-map, length-replicate, drop-of-length-le}
+use lib.Seq.{drop-cons}
+use Rattle.xor.specs.Xors.{xors, addAll, combination}
+use Rattle.xor.proofs.Bits.{xor-assoc}
+use Rattle.xor.proofs.Lists.{length-xors, xors-self}
+use Rattle.xor.proofs.Combination.{length-combination, bytes-addAll}
+use Rattle.crc.specs.Crc.{bitsOf, Bytes, Within}
+use Rattle.crc.specs.Guard.{guard}
+use Rattle.crc.proofs.Linear.{guard-linear, bitsOf-xors}
+use Rattle.crc.proofs.Noticed.{noticed}
+use Rattle.layout.specs.Answers.{refuse}
+use Rattle.layout.specs.Arrays.{within}
+use Rattle.layout.specs.declared.Array.{Array}
+use Rattle.layout.proofs.Answers.{answer-refused, refuse-none}
+use Rattle.layout.proofs.Ranges.{Sound, within-range, range-within}
+use Rattle.tag.specs.Blocks.{dataLength, blockLength, dataOf}
+use Rattle.tag.specs.Tags.{due, good}
+use Rattle.tag.specs.declared.Fields.{Fields}
+use Rattle.tag.proofs.Fits.{good-fields}
+use Rattle.tag.proofs.Tagged.{length-data, bytes-of-data}
+use Rattle.stripe.specs.Verdicts.{storedGuard, combinedGuards, quickRefusal, quickNumbers, scrubBlocks}
+use Rattle.stripe.proofs.Verdicts.{zeros-at}
+use Rattle.stripe.proofs.Scrubs.{blocks-good}
+
+-- ---- the guard of a combination
+
+pub guard-zeros : (n : ℕ) → guard (replicate n 0) ≡ 0
+guard-zeros n =
+    ap (λ (k : ℕ). guard (replicate k 0)) (sym (length-replicate {A = ℕ} n 0)) ∙ ap guard (sym (xors-self (replicate n 0)))
+    ∙ guard-linear (replicate n 0) (replicate n 0) refl ∙ xor-self (guard (replicate n 0))
+
+pub guard-addAll : (a : List ℕ) (runs : List (List ℕ)) → ((i : ℕ) → i < length runs → length (getD runs i []) ≡ length a)
+    → guard (addAll a runs) ≡ bitXor (guard a) (combinedGuards (map guard runs))
+unfolding addAll
+guard-addAll a [] long = sym (xor-zero-r (guard a))
+guard-addAll a (b ∷ runs) long =
+    guard-addAll (xors a b) runs (λ i h. long (suc i) (omega arith) ∙ sym (length-xors a b))
+    ∙ ap (λ (g : ℕ). bitXor g (combinedGuards (map guard runs))) (guard-linear a b (sym (long 0 (zero-lt-suc (length runs)))))
+    ∙ xor-assoc (guard a) (guard b) (combinedGuards (map guard runs))
+
+pub guard-combination : (n : ℕ) (runs : List (List ℕ)) → ((i : ℕ) → i < length runs → length (getD runs i []) ≡ n)
+    → guard (combination n runs) ≡ combinedGuards (map guard runs)
+guard-combination n runs long =
+    guard-addAll (replicate n 0) runs (λ i h. long i h ∙ sym (length-replicate {A = ℕ} n 0))
+    ∙ ap (λ (g : ℕ). bitXor g (combinedGuards (map guard runs))) (guard-zeros n)
+
+-- ---- the loop over the guards: one more, and its end
+
+pub guards-turn : (c : ℕ) (guards : List ℕ) (i : ℕ) → i < length guards
+    → bitXor (bitXor c (getD guards i 0)) (combinedGuards (drop (i + 1) guards)) ≡ bitXor c (combinedGuards (drop i guards))
+guards-turn c guards i h =
+    rw (add-one, drop-cons guards i 0) (xor-assoc c (getD guards i 0) (combinedGuards (drop (suc i) guards)))
+
+pub guards-end : (c : ℕ) (guards : List ℕ) (i : ℕ) → length guards ≤ i → c ≡ bitXor c (combinedGuards (drop i guards))
+guards-end c guards i h = rw (drop-of-length-le guards h) (sym (xor-zero-r c))
+
+-- ---- the answer, from the combination of the guards
+
+-- refused exactly where their number is not 3 to 16
+pub sound-quick : (n : ℕ) → 3 ≤ n → n ≤ 16 → quickRefusal n ≡ 0
+unfolding quickRefusal
+sound-quick n few many = rw (range-within 3 16 n few many)
+
+pub quick-sound : (n : ℕ) → quickRefusal n ≡ 0 → (3 ≤ n) × (n ≤ 16)
+unfolding quickRefusal
+quick-sound n e = within-range 3 16 n (refuse-none (within 3 16 n) 0 0 e .0)
+
+pub few-refused : (n : ℕ) → n < 3 → quickRefusal n ≡ 1
+unfolding quickRefusal
+few-refused n h = rw (lt-leb 3 n h)
+
+pub many-refused : (n : ℕ) → 16 < n → quickRefusal n ≡ 1
+unfolding quickRefusal
+many-refused n h = rw (lt-leb n 16 h) (by-test (leb 3 n))
+  where
+    by-test : (t : Bool) → refuse (not (t && false)) 1 0 ≡ 1
+    by-test true = refl
+    by-test false = refl
+
+module _ (guards : List ℕ) where
+  pub quick-refused : quickRefusal (length guards) ≢ 0 → quickNumbers guards ≡ 0 ∷ quickRefusal (length guards) ∷ 0 ∷ 0 ∷ []
+  unfolding quickNumbers
+  quick-refused h = answer-refused (quickRefusal (length guards)) (cond (eqb (combinedGuards guards) 0) 0 1 ∷ combinedGuards guards ∷ []) h
+
+  pub quick-fits : quickRefusal (length guards) ≡ 0 → combinedGuards guards ≡ 0 → quickNumbers guards ≡ 1 ∷ 0 ∷ 0 ∷ 0 ∷ []
+  unfolding quickNumbers
+  quick-fits sound e = rw (sound, e)
+
+  pub quick-differs : quickRefusal (length guards) ≡ 0 → combinedGuards guards ≢ 0 → quickNumbers guards ≡ 1 ∷ 0 ∷ 1 ∷ combinedGuards guards ∷ []
+  unfolding quickNumbers
+  quick-differs sound h = rw (sound, ne-eqb (combinedGuards guards) 0 h)
+
+-- ---- whole blocks, as many as the array has members
+
+pub record Whole (a : Array) (blocks : List (List ℕ)) : Type 0 where
+  pub all-there : length blocks ≡ a .members
+  pub long : (i : ℕ) → i < length blocks → length (getD blocks i []) ≡ blockLength
+  pub bytes : (i : ℕ) → Bytes (getD blocks i [])
+
+lengths-data : (blocks : List (List ℕ)) → ((i : ℕ) → i < length blocks → length (getD blocks i []) ≡ blockLength)
+    → (i : ℕ) → i < length (map dataOf blocks) → length (getD (map dataOf blocks) i []) ≡ dataLength
+lengths-data [] long i h = absurd (not-suc-le-zero h)
+lengths-data (b ∷ blocks) long zero h = length-data b (long 0 (zero-lt-suc (length blocks)))
+lengths-data (b ∷ blocks) long (suc i) h = lengths-data blocks (λ i h. long (suc i) (suc-le-suc h)) i (le-of-suc-le-suc h)
+
+bytes-data : (blocks : List (List ℕ)) → ((i : ℕ) → Bytes (getD blocks i [])) → (i : ℕ) → Bytes (getD (map dataOf blocks) i [])
+bytes-data [] h i k = lit< tt
+bytes-data (b ∷ blocks) h zero k = bytes-of-data b (h 0) k
+bytes-data (b ∷ blocks) h (suc i) k = bytes-data blocks (λ i. h (suc i)) i k
+
+pub bytes-zeros : (n : ℕ) → Bytes (replicate n 0)
+bytes-zeros n k = rw (zeros-at n k) (lit< tt)
+
+stored-guards : (blocks : List (List ℕ)) → ((i : ℕ) → i < length blocks → storedGuard (getD blocks i []) ≡ guard (dataOf (getD blocks i [])))
+    → map storedGuard blocks ≡ map guard (map dataOf blocks)
+stored-guards [] right = refl
+stored-guards (b ∷ blocks) right =
+    ap₂ (λ (g : ℕ) (gs : List ℕ). g ∷ gs) (right 0 (zero-lt-suc (length blocks))) (stored-guards blocks (λ i h. right (suc i) (suc-le-suc h)))
+
+-- the guard stored in a good block is that of its data
+good-guard : (a : Array) (s m : ℕ) (block : List ℕ) → good a s m block ≡ true → storedGuard block ≡ guard (dataOf block)
+unfolding due
+good-guard a s m block h = ap (λ (f : Fields). f .guard) (good-fields a s m block h)
+
+-- the one bits of a combination lie within sixteen successive bits: it differs from zeros only there
+pub within-zeros : (n from : ℕ) (bytes : List ℕ) → ((k : ℕ) → k < from → getD (bitsOf bytes) k 0 ≡ 0)
+    → ((k : ℕ) → from + 16 ≤ k → getD (bitsOf bytes) k 0 ≡ 0) → Within 16 (bitsOf bytes) (bitsOf (replicate n 0))
+within-zeros n from bytes low high = record { from = from; before = λ k h. low k h ∙ sym (none k); after = λ k h. high k h ∙ sym (none k) }
+  where
+    all : bitsOf (replicate n 0) ≡ replicate (length (bitsOf (replicate n 0))) 0
+    all =
+        ap (λ (k : ℕ). bitsOf (replicate k 0)) (sym (length-replicate {A = ℕ} n 0)) ∙ ap bitsOf (sym (xors-self (replicate n 0)))
+        ∙ bitsOf-xors (replicate n 0) (replicate n 0) refl ∙ xors-self (bitsOf (replicate n 0))
+
+    none : (k : ℕ) → getD (bitsOf (replicate n 0)) k 0 ≡ 0
+    none k = ap (λ (l : List ℕ). getD l k 0) all ∙ zeros-at (length (bitsOf (replicate n 0))) k
+
+module _ (a : Array) (s : ℕ) (blocks : List (List ℕ)) (sound : Sound a) (whole : Whole a blocks) (none-bad : getD (scrubBlocks a s blocks) 0 0 ≢ 1) where
+  pub guards-combined : combinedGuards (map storedGuard blocks) ≡ guard (combination dataLength (map dataOf blocks))
+  guards-combined =
+      ap combinedGuards (stored-guards blocks (λ i h. good-guard a s i (getD blocks i []) (blocks-good a s blocks (whole .all-there) none-bad i (omega (arith, whole .all-there)))))
+      ∙ sym (guard-combination dataLength (map dataOf blocks) (lengths-data blocks (whole .long)))
+
+  enough : quickRefusal (length (map storedGuard blocks)) ≡ 0
+  enough =
+      let count : length (map storedGuard blocks) ≡ a .members = length-map blocks storedGuard ∙ whole .all-there in
+      ap quickRefusal count ∙ sound-quick (a .members) (sound .few) (sound .many)
+
+  -- the data combine to zero at every byte: it fits
+  pub fits-where-zero : combination dataLength (map dataOf blocks) ≡ replicate dataLength 0 → quickNumbers (map storedGuard blocks) ≡ 1 ∷ 0 ∷ 0 ∷ 0 ∷ []
+  fits-where-zero e = quick-fits (map storedGuard blocks) enough (guards-combined ∙ ap guard e ∙ guard-zeros dataLength)
+
+  -- they do not, by one bits that lie within sixteen successive bits: it differs
+  pub differs-within : combination dataLength (map dataOf blocks) ≢ replicate dataLength 0
+      → Within 16 (bitsOf (combination dataLength (map dataOf blocks))) (bitsOf (replicate dataLength 0))
+      → (guard (combination dataLength (map dataOf blocks)) ≢ 0)
+      × (quickNumbers (map storedGuard blocks) ≡ 1 ∷ 0 ∷ 1 ∷ guard (combination dataLength (map dataOf blocks)) ∷ [])
+  differs-within ne within =
+      let combined = combination dataLength (map dataOf blocks) in
+      let seen : guard combined ≢ 0 =
+      λ e. noticed combined (replicate dataLength 0)
+      (bytes-addAll (replicate dataLength 0) (map dataOf blocks) (bytes-zeros dataLength) (bytes-data blocks (whole .bytes)))
+      (bytes-zeros dataLength)
+      (length-combination dataLength (map dataOf blocks) ∙ sym (length-replicate {A = ℕ} dataLength 0))
+      within ne (e ∙ sym (guard-zeros dataLength)) in (
+        seen,
+        quick-differs (map storedGuard blocks) enough (λ e. seen (sym guards-combined ∙ e))
+            ∙ ap (λ (g : ℕ). 1 ∷ 0 ∷ 1 ∷ g ∷ []) guards-combined,
+      )

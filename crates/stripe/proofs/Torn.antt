@@ -1,0 +1,159 @@
+-- The two torn stripes of the bench figures: three members, all data zero but the end of the parity, and every tag the one due. The
+-- scrub finds the first byte of that end in both; the stored guards tell of one of them, and cannot of the other. Assumes nothing.
+use mathlib.Core.Path.{_≡_, refl, sym, ap, _∙_, subst}
+use mathlib.Core.Bool.{true}
+use mathlib.Core.List.{List, [], _∷_, _++_, map}
+use mathlib.Core.Logic.{_≢_}
+use Prim.Native.Nat.{ℕ, zero, suc, _+_, _<_}
+use native.Mathlib.Nat.{le-of-suc-le-suc, not-suc-le-zero}
+use native.Mathlib.Omega.{arith}
+use lib.Dec.{lit<, lit≤}
+use lib.ListN.{length, getD, replicate, length-append, length-replicate, getD-replicate, List·getD-append}
+use lib.Seq.{getD-at}
+use Rattle.xor.specs.Xors.{xors, addAll, combination}
+use Rattle.xor.proofs.Lists.{xors-zeros, zeros-xors}
+use Rattle.crc.specs.Crc.{bits, bitsOf, bitStep, feed, Bytes}
+use Rattle.crc.specs.Guard.{run, guard}
+use Rattle.crc.proofs.Joined.{run-joined}
+use Rattle.layout.specs.Places.{ownerRefusal}
+use Rattle.layout.specs.declared.Array.{Array}
+use Rattle.layout.proofs.Ranges.{Sound, sound-place}
+use Rattle.tag.specs.Blocks.{dataLength, blockLength, dataOf}
+use Rattle.tag.specs.Tags.{good, tagged}
+use Rattle.tag.proofs.Numbers.{bytes-joined}
+use Rattle.tag.proofs.Tagged.{length-tagged, data-of-tagged, tagged-good, bytes-tagged}
+use Rattle.stripe.specs.Verdicts.{storedGuard, combinedGuards, quickNumbers, scrubBlocks}
+use Rattle.stripe.proofs.Verdicts.{FirstNonzero}
+use Rattle.stripe.proofs.Scrubs.{blocks-torn}
+use Rattle.stripe.proofs.Quick.{Whole, bytes-zeros, guard-zeros, sound-quick, quick-fits, quick-differs, guards-combined}
+
+abbrev pub bench : Array
+bench = record { members = 3; stripes = 1; volume = 7 }
+
+bench-sound : Sound bench
+bench-sound = record { few = lit≤ tt; many = lit≤ tt; some = lit≤ tt; most = lit≤ tt }
+
+place : (m : ℕ) → m < 3 → ownerRefusal bench 0 m ≡ 0
+place m h = sound-place bench 0 m (record { stripe = record { array = bench-sound; here = lit< tt }; here = h })
+
+-- a run and two runs of zeros combine to the run
+with-zeros : (n : ℕ) (p q r : List ℕ) → length p ≡ n → q ≡ replicate n 0 → r ≡ replicate n 0 → combination n (p ∷ q ∷ r ∷ []) ≡ p
+unfolding addAll
+with-zeros n p q r long second third =
+    ap (λ (l : List ℕ). xors (xors (xors (replicate n 0) p) q) l) third ∙ xors-zeros (xors (xors (replicate n 0) p) q) n
+    ∙ ap (λ (l : List ℕ). xors (xors (replicate n 0) p) l) second ∙ xors-zeros (xors (replicate n 0) p) n
+    ∙ ap (λ (k : ℕ). xors (replicate k 0) p) (sym long) ∙ zeros-xors p
+
+-- some zeros and then an ending, and the stripe whose parity that is
+abbrev pub zerosThen : ℕ → List ℕ → List ℕ
+zerosThen zeros ending = replicate zeros 0 ++ ending
+
+abbrev pub tornBlocks : ℕ → ℕ → List ℕ → List (List ℕ)
+tornBlocks size zeros ending =
+    tagged bench 0 0 (zerosThen zeros ending) ∷ tagged bench 0 1 (replicate size 0) ∷ tagged bench 0 2 (replicate size 0) ∷ []
+
+module _ (size zeros x : ℕ) (rest : List ℕ) (data-size : size ≡ dataLength) (fill : zeros + suc (length rest) ≡ size) (some : x ≢ 0) (bytes : Bytes (x ∷ rest)) where
+  long : length (zerosThen zeros (x ∷ rest)) ≡ dataLength
+  long = simp (length-append, length-replicate) (omega arith)
+
+  zeros-long : length (replicate {A = ℕ} size 0) ≡ dataLength
+  zeros-long = length-replicate {A = ℕ} size 0 ∙ data-size
+
+  combined : combination dataLength (map dataOf (tornBlocks size zeros (x ∷ rest))) ≡ zerosThen zeros (x ∷ rest)
+  combined =
+      with-zeros dataLength (dataOf (tagged bench 0 0 (zerosThen zeros (x ∷ rest)))) (dataOf (tagged bench 0 1 (replicate size 0))) (dataOf (tagged bench 0 2 (replicate size 0)))
+      (ap length first ∙ long)
+      (data-of-tagged bench 0 1 (replicate size 0) zeros-long ∙ ap (λ (k : ℕ). replicate k 0) data-size)
+      (data-of-tagged bench 0 2 (replicate size 0) zeros-long ∙ ap (λ (k : ℕ). replicate k 0) data-size)
+      ∙ first
+    where
+      first : dataOf (tagged bench 0 0 (zerosThen zeros (x ∷ rest))) ≡ zerosThen zeros (x ∷ rest)
+      first = data-of-tagged bench 0 0 (zerosThen zeros (x ∷ rest)) long
+
+  all-good : (m : ℕ) → m < 3 → good bench 0 m (getD (tornBlocks size zeros (x ∷ rest)) m []) ≡ true
+  all-good zero h = tagged-good bench 0 0 (zerosThen zeros (x ∷ rest)) long (place 0 h) (lit< tt)
+  all-good (suc zero) h = tagged-good bench 0 1 (replicate size 0) zeros-long (place 1 h) (lit< tt)
+  all-good (suc (suc zero)) h = tagged-good bench 0 2 (replicate size 0) zeros-long (place 2 h) (lit< tt)
+  all-good (suc (suc (suc m))) h = absurd (not-suc-le-zero (le-of-suc-le-suc (le-of-suc-le-suc (le-of-suc-le-suc h))))
+
+  first-there : FirstNonzero (zerosThen zeros (x ∷ rest)) zeros
+  first-there =
+      record {
+        inside = omega (arith, long);
+        not-zero = λ e. some (sym (getD-at (replicate zeros 0) x rest 0 zeros (length-replicate {A = ℕ} zeros 0)) ∙ e);
+        zero-below = λ k h. List·getD-append (replicate zeros 0) (x ∷ rest) 0 k (omega (arith, length-replicate {A = ℕ} zeros 0)) ∙ getD-replicate zeros k 0 0 h;
+      }
+
+  pub torn-there : scrubBlocks bench 0 (tornBlocks size zeros (x ∷ rest)) ≡ 2 ∷ zeros ∷ 0 ∷ []
+  torn-there =
+      blocks-torn bench 0 (tornBlocks size zeros (x ∷ rest)) refl zeros .1
+      (all-good, subst (λ (l : List ℕ). FirstNonzero l zeros) (sym combined) first-there)
+
+  whole : Whole bench (tornBlocks size zeros (x ∷ rest))
+  whole = record { all-there = refl; long = each-long; bytes = each-bytes }
+    where
+      each-long : (i : ℕ) → i < 3 → length (getD (tornBlocks size zeros (x ∷ rest)) i []) ≡ blockLength
+      each-long zero h = length-tagged bench 0 0 (zerosThen zeros (x ∷ rest)) long
+      each-long (suc zero) h = length-tagged bench 0 1 (replicate size 0) zeros-long
+      each-long (suc (suc zero)) h = length-tagged bench 0 2 (replicate size 0) zeros-long
+      each-long (suc (suc (suc m))) h = absurd (not-suc-le-zero (le-of-suc-le-suc (le-of-suc-le-suc (le-of-suc-le-suc h))))
+
+      each-bytes : (i : ℕ) → Bytes (getD (tornBlocks size zeros (x ∷ rest)) i [])
+      each-bytes zero = bytes-tagged bench 0 0 (zerosThen zeros (x ∷ rest)) (bytes-joined (replicate zeros 0) (x ∷ rest) (bytes-zeros zeros) bytes)
+      each-bytes (suc zero) = bytes-tagged bench 0 1 (replicate size 0) (bytes-zeros size)
+      each-bytes (suc (suc zero)) = bytes-tagged bench 0 2 (replicate size 0) (bytes-zeros size)
+      each-bytes (suc (suc (suc m))) = λ k. lit< tt
+
+  -- the stored guards combine to the guard of the ending
+  guards-there : combinedGuards (map storedGuard (tornBlocks size zeros (x ∷ rest))) ≡ guard (x ∷ rest)
+  unfolding guard
+  guards-there =
+      guards-combined bench 0 (tornBlocks size zeros (x ∷ rest)) bench-sound whole none-bad ∙ ap guard combined
+      ∙ run-joined 0 (replicate zeros 0) (x ∷ rest) ∙ ap (λ (r : ℕ). run r (x ∷ rest)) (guard-zeros zeros)
+    where
+      none-bad : getD (scrubBlocks bench 0 (tornBlocks size zeros (x ∷ rest))) 0 0 ≢ 1
+      none-bad e = let two : _≡_ {A = ℕ} 2 1 = sym (ap (λ (l : List ℕ). getD l 0 0) torn-there) ∙ e in omega arith
+
+  pub unseen : guard (x ∷ rest) ≡ 0 → quickNumbers (map storedGuard (tornBlocks size zeros (x ∷ rest))) ≡ 1 ∷ 0 ∷ 0 ∷ 0 ∷ []
+  unseen e = quick-fits (map storedGuard (tornBlocks size zeros (x ∷ rest))) (sound-quick 3 (lit≤ tt) (lit≤ tt)) (guards-there ∙ e)
+
+  pub seen : guard (x ∷ rest) ≢ 0 → quickNumbers (map storedGuard (tornBlocks size zeros (x ∷ rest))) ≡ 1 ∷ 0 ∷ 1 ∷ guard (x ∷ rest) ∷ []
+  seen h =
+      quick-differs (map storedGuard (tornBlocks size zeros (x ∷ rest))) (sound-quick 3 (lit≤ tt) (lit≤ tt)) (λ e. h (sym guards-there ∙ e))
+      ∙ ap (λ (g : ℕ). 1 ∷ 0 ∷ 1 ∷ g ∷ []) guards-there
+
+-- ---- the figures: torn at 509 both, the guards fit, and differ by 8BB7
+
+few-bytes : (a b c : ℕ) → a < 256 → b < 256 → c < 256 → Bytes (a ∷ b ∷ c ∷ [])
+few-bytes a b c ha hb hc zero = ha
+few-bytes a b c ha hb hc (suc zero) = hb
+few-bytes a b c ha hb hc (suc (suc zero)) = hc
+few-bytes a b c ha hb hc (suc (suc (suc k))) = lit< tt
+
+guard-unseen : guard (0x01 ∷ 0x8B ∷ 0xB7 ∷ []) ≡ 0
+unfolding guard run feed bitsOf bits bitStep
+guard-unseen = refl
+
+guard-seen : guard (0x01 ∷ 0x8B ∷ 0xB6 ∷ []) ≡ 0x8BB7
+unfolding guard run feed bitsOf bits bitStep
+guard-seen = refl
+
+some-end : _≢_ {A = ℕ} 1 0
+some-end e = omega arith
+
+pub torn-unseen : (scrubBlocks bench 0 (tornBlocks 512 509 (0x01 ∷ 0x8B ∷ 0xB7 ∷ [])) ≡ 2 ∷ 509 ∷ 0 ∷ [])
+    × (quickNumbers (map storedGuard (tornBlocks 512 509 (0x01 ∷ 0x8B ∷ 0xB7 ∷ []))) ≡ 1 ∷ 0 ∷ 0 ∷ 0 ∷ [])
+torn-unseen =
+    let bytes = few-bytes 0x01 0x8B 0xB7 (lit< tt) (lit< tt) (lit< tt) in (
+      torn-there 512 509 0x01 (0x8B ∷ 0xB7 ∷ []) refl refl some-end bytes,
+      unseen 512 509 0x01 (0x8B ∷ 0xB7 ∷ []) refl refl some-end bytes guard-unseen,
+    )
+
+pub torn-seen : (scrubBlocks bench 0 (tornBlocks 512 509 (0x01 ∷ 0x8B ∷ 0xB6 ∷ [])) ≡ 2 ∷ 509 ∷ 0 ∷ [])
+    × (quickNumbers (map storedGuard (tornBlocks 512 509 (0x01 ∷ 0x8B ∷ 0xB6 ∷ []))) ≡ 1 ∷ 0 ∷ 1 ∷ 0x8BB7 ∷ [])
+torn-seen =
+    let bytes = few-bytes 0x01 0x8B 0xB6 (lit< tt) (lit< tt) (lit< tt) in (
+      torn-there 512 509 0x01 (0x8B ∷ 0xB6 ∷ []) refl refl some-end bytes,
+      seen 512 509 0x01 (0x8B ∷ 0xB6 ∷ []) refl refl some-end bytes (λ e. let z : _≡_ {A = ℕ} 0x8BB7 0 = sym guard-seen ∙ e in omega arith)
+          ∙ ap (λ (g : ℕ). 1 ∷ 0 ∷ 1 ∷ g ∷ []) guard-seen,
+    )

@@ -1,0 +1,58 @@
+-- `stripe::combined_guards` meets its contract. The invariant: the guards still to come, added to what is combined now, give what all give.
+-- Assumes nothing.
+use mathlib.Core.Path.{_≡_, refl, _∙_}
+use Prim.Native.Nat.{_-_, _≤_}
+use native.Mathlib.Omega.{arith}
+use borrow.Author.Needs.{needs}
+use lib.Bits.{bitXor}
+use lib.ListN.{length, drop}
+use Rattle.stripe.specs.Verdicts.{combinedGuards}
+use Rattle.stripe.proofs.Quick.{guards-turn, guards-end}
+use Rattle.stripe.proofs.scrubbing.combined_guards.Statement.{statement}
+use Rattle.stripe.proofs.scrubbing.combined_guards.Tie as tie
+
+abbrev Inv-loop : tie.InvT-loop
+Inv-loop guards combined₀ i₀ combined i = (i ≤ length guards) × (bitXor combined (combinedGuards (drop i guards)) ≡ combinedGuards guards)
+
+abbrev μ-loop : tie.MeasureT-loop
+μ-loop guards combined₀ i₀ combined i = length guards - i
+
+loop-holds : tie.Need-loop-holds Inv-loop μ-loop
+loop-holds c = (omega arith, refl)
+
+mul-combined : tie.Need-mul-combined Inv-loop μ-loop
+mul-combined c = search needs
+
+shared-slice-read-combined : tie.Need-shared-slice-read-combined Inv-loop μ-loop
+shared-slice-read-combined c = search needs
+
+add-i : tie.Need-add-i Inv-loop μ-loop
+add-i c = search needs
+
+loop-less : tie.Need-loop-less Inv-loop μ-loop
+loop-less c = search needs
+
+loop-again : tie.Need-loop-again Inv-loop μ-loop
+loop-again c =
+    let at = c .before .before .loop in
+    let guards = c .before .before .before .args .guards .now in
+    (omega arith, guards-turn (at .combined) guards (at .i) (omega arith) ∙ at .inv .1)
+
+returns : tie.Need-returns Inv-loop μ-loop
+returns c =
+    let at = c .before .loop in
+    guards-end (at .combined) (c .before .before .args .guards .now) (at .i) (omega arith) ∙ at .inv .1
+
+pub combined-guards-spec : {M : Type 1} → statement M
+combined-guards-spec =
+    tie.close
+    (tie.spec
+    Inv-loop
+    μ-loop
+    loop-holds
+    mul-combined
+    shared-slice-read-combined
+    add-i
+    loop-less
+    loop-again
+    returns)
