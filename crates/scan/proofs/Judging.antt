@@ -2,7 +2,7 @@
 -- Assumes nothing.
 use mathlib.Core.Path.{_≡_, refl, sym, ap, ap₂, _∙_}
 use mathlib.Core.Bool.{Bool, false, not}
-use mathlib.Core.List.{List, [], _∷_, map}
+use mathlib.Core.List.{List, [], _∷_}
 use mathlib.Core.Logic.{_≢_}
 use Prim.Native.Nat.{ℕ, zero, suc, _*_, _<_}
 use lib.ListN.{length, getD, take, drop, List·getD-map}
@@ -12,7 +12,7 @@ use Rattle.layout.specs.Places.{ownerRefusal}
 use Rattle.tag.specs.Tags.{found, due, dueAt, fits}
 use Rattle.tag.specs.declared.Fields.{Fields}
 use Rattle.tag.proofs.Expected.{due-somewhere}
-use Rattle.stripe.specs.Tables.{table, span}
+use Rattle.stripe.specs.Tables.{span}
 use Rattle.stripe.specs.Formats.{t10, Summary}
 use Rattle.stripe.specs.Verdicts.{count, lowest, nonzero, badMembers, tornPlaces, judgedBy, judged, verdict}
 use Rattle.stripe.proofs.Tables.{length-table, getD-table, table-ext}

@@ -36,6 +36,7 @@ fn piece_refusal(state: Scan, member: usize, count: usize, length: usize) -> u8
     0
 }
 
+// The smaller of two numbers.
 fn least(a: usize, b: usize) -> usize
     ensures { λ r. ⌜ r ≡ min a b ⌝ }
 {

@@ -1,7 +1,7 @@
 -- `scan::finishing::finish` meets its contract: refused by its own tests, else the judgement of the bad members and the work buffer.
 -- Assumes nothing.
 use mathlib.Core.Path.{sym, ap, _∙_}
-use mathlib.Core.List.{List, [], _∷_}
+use mathlib.Core.List.{[], _∷_}
 use Prim.Native.Nat.{ℕ}
 use borrow.Author.Needs.{needs}
 use lib.ListN.{length}

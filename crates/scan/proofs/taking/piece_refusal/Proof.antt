@@ -1,10 +1,9 @@
 -- `scan::taking::piece_refusal` is `pieceRefusal`. Assumes nothing.
-use mathlib.Core.Path.{_≡_, sym, _∙_}
-use mathlib.Core.Bool.{true, false}
+use mathlib.Core.Path.{sym, _∙_}
 use native.Mathlib.Omega.{arith}
 use borrow.Author.Needs.{needs}
 use borrow.Author.Tests.{lt-ltb, le-ltb, eq-eqb, ne-eqb, not-true, not-false}
-use Rattle.scan.specs.Scans.{fit, pieceRefusal}
+use Rattle.scan.specs.Scans.{pieceRefusal}
 use Rattle.scan.proofs.Fitness.{fit-state}
 use Rattle.scan.proofs.taking.piece_refusal.Statement.{statement}
 use Rattle.scan.proofs.taking.piece_refusal.Tie as tie
