@@ -1,9 +1,6 @@
 //! A second program for the proved library: a model, written from the standard and the rules and not from the
 //! proved code, and comparisons of the two on many inputs.
 
-// A part that is not yet compared leaves some of the model unused.
-#![cfg_attr(not(feature = "scan"), allow(dead_code))]
-
 mod compare;
 mod figures;
 mod lent;
@@ -21,15 +18,10 @@ type Comparison = fn(&mut Random) -> Result<String, String>;
 const PARTS: &[(&str, Comparison)] = &[
     ("figures", figures::check),
     ("guard", compare::guard::compare),
-    #[cfg(feature = "layout")]
     ("layout", compare::layout::compare),
-    #[cfg(feature = "tag")]
     ("tag", compare::tag::compare),
-    #[cfg(feature = "stripe")]
     ("stripe", compare::stripe::compare),
-    #[cfg(feature = "scrub")]
     ("scrub", compare::scrub::compare),
-    #[cfg(feature = "scan")]
     ("scan", compare::scan::compare),
 ];
 

@@ -5,14 +5,29 @@ use lib.ListN.{drop}
 use Rattle.layout.specs.declared.Array.{Array}
 use Rattle.layout.specs.declared.Placed.{Placed}
 use Rattle.layout.specs.declared.Placed.the-variants.{Refused, At}
+use Rattle.scan.specs.declared.Scan.{Scan}
 use Rattle.irumbolai.specs.declared.PlaceAnswer.{PlaceAnswer}
 use Rattle.irumbolai.specs.declared.OwnerAnswer.{OwnerAnswer}
 use Rattle.irumbolai.specs.declared.CheckAnswer.{CheckAnswer}
 use Rattle.irumbolai.specs.declared.ReadAnswer.{ReadAnswer}
+use Rattle.irumbolai.specs.declared.VerdictAnswer.{VerdictAnswer}
+use Rattle.irumbolai.specs.declared.QuickAnswer.{QuickAnswer}
+use Rattle.irumbolai.specs.declared.ScanState.{ScanState}
 
 -- the array whose numbers are handed in one by one
 abbrev pub arrayOf : ℕ → ℕ → ℕ → Array
 arrayOf members stripes volume = record { members = members; stripes = stripes; volume = volume }
+
+-- the state of a scan that C holds: the array's numbers stand in it one by one
+abbrev pub scanOf : ScanState → Scan
+scanOf s =
+    record {
+      array = arrayOf (s .members) (s .stripes) (s .volume);
+      stripe = s .stripe;
+      at = s .at;
+      register = s .register;
+      tag = s .tag;
+    }
 
 -- the numbers of an answer without the flag before them: in a struct, refusal 0 alone says that the call is done
 abbrev pub unflagged : List ℕ → List ℕ
@@ -35,3 +50,9 @@ checkFields r = r .refusal ∷ r .field ∷ r .found ∷ r .expected ∷ []
 
 abbrev pub readFields : ReadAnswer → List ℕ
 readFields r = r .refusal ∷ r .rebuilt ∷ []
+
+abbrev pub verdictFields : VerdictAnswer → List ℕ
+verdictFields r = r .refusal ∷ r .kind ∷ r .first ∷ r .count ∷ []
+
+abbrev pub quickFields : QuickAnswer → List ℕ
+quickFields r = r .refusal ∷ r .differs ∷ r .combination ∷ []

@@ -1,9 +1,18 @@
 // The C library: each call of include/irumbolai.h. A slice is a pointer and a length to C.
 mod places;
+mod scans;
+mod scrubs;
 mod stripes;
 
 ghost use mathlib.Core.Path.{_≡_};
+ghost use mathlib.Core.List.{_∷_};
+ghost use Prim.Native.Nat.{_<_};
+ghost use lib.ListN.{getD};
 ghost use Rattle.crc.specs.Guard.{guard};
+ghost use Rattle.stripe.specs.Verdicts.{verdictNumbers, scrubbedNumbers};
+ghost use Rattle.irumbolai.specs.Answers.{unflagged, verdictFields};
+use stripe::Scrubbed;
+use stripe::Verdict;
 
 // Where a block lies.
 #[repr(C)]
@@ -37,10 +46,101 @@ pub struct ReadAnswer {
     pub rebuilt: u32,
 }
 
+// What a scrub says: kind 0 clean, 1 bad (the lowest bad member and their count), 2 torn (the first place).
+#[repr(C)]
+pub struct VerdictAnswer {
+    pub refusal: u32,
+    pub kind: u32,
+    pub first: u32,
+    pub count: u32,
+}
+
+// What a quick scrub says.
+#[repr(C)]
+pub struct QuickAnswer {
+    pub refusal: u32,
+    pub differs: u32,
+    pub combination: u32,
+}
+
+// The state of a scan: the array's numbers, then what `scan::Scan` holds.
+#[repr(C)]
+pub struct ScanState {
+    pub members: usize,
+    pub stripes: u64,
+    pub volume: u8,
+    pub stripe: u64,
+    pub at: [u16; 16],
+    pub register: [u16; 16],
+    pub tag: [u8; 128],
+}
+
+// What a call of a scan leaves.
+#[repr(C)]
+pub struct TakenAnswer {
+    pub refusal: u32,
+    pub state: ScanState,
+}
+
 // The guard of a run of bytes of any length.
 #[no_mangle]
 pub extern "C" fn irumbolai_guard(bytes: &[u8]) -> u16
     ensures { λ r. ⌜ r ≡ guard (now (bytes .entry)) ⌝ }
 {
     crc::guard(bytes)
+}
+
+// A verdict for C.
+fn found_answer(verdict: Verdict) -> VerdictAnswer
+    requires { ⌜ getD (verdictNumbers verdict) 1 0 < 4294967296 ⌝ }
+    requires { ⌜ getD (verdictNumbers verdict) 2 0 < 4294967296 ⌝ }
+    ensures { λ r. ⌜ verdictFields r ≡ 0 ∷ verdictNumbers verdict ⌝ }
+{
+    match verdict {
+        Verdict::Clean => VerdictAnswer {
+            refusal: 0,
+            kind: 0,
+            first: 0,
+            count: 0,
+        },
+        Verdict::Bad { member, count } => {
+            let first = member as u32;
+            let count = count as u32;
+            VerdictAnswer {
+                refusal: 0,
+                kind: 1,
+                first,
+                count,
+            }
+        }
+        Verdict::Torn { place } => {
+            let first = place as u32;
+            VerdictAnswer {
+                refusal: 0,
+                kind: 2,
+                first,
+                count: 0,
+            }
+        }
+    }
+}
+
+// An answer of `scrub` or `finish` for C.
+fn verdict_answer(scrubbed: Scrubbed) -> VerdictAnswer
+    requires { ⌜ getD (scrubbedNumbers scrubbed) 3 0 < 4294967296 ⌝ }
+    requires { ⌜ getD (scrubbedNumbers scrubbed) 4 0 < 4294967296 ⌝ }
+    ensures { λ r. ⌜ verdictFields r ≡ unflagged (scrubbedNumbers scrubbed) ⌝ }
+{
+    match scrubbed {
+        Scrubbed::Refused(number) => {
+            let refusal = number as u32;
+            VerdictAnswer {
+                refusal,
+                kind: 0,
+                first: 0,
+                count: 0,
+            }
+        }
+        Scrubbed::Found(verdict) => found_answer(verdict),
+    }
 }

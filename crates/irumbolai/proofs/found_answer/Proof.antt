@@ -1,0 +1,46 @@
+-- `found_answer` sets out what it is handed, case by case. Assumes nothing.
+use native.Mathlib.Omega.{arith}
+use borrow.Author.Needs.{needs}
+use Rattle.irumbolai.proofs.found_answer.Statement.{statement}
+use Rattle.irumbolai.proofs.found_answer.Tie as tie
+
+enum-told : tie.Need-enum-told
+enum-told c = search needs
+
+enum-known-verdict : tie.Need-enum-known-verdict
+enum-known-verdict c = search needs
+
+cast-first : tie.Need-cast-first
+cast-first c = let h = rw (c .before .verdict .given .1) at (c .before .before .before .pre .0) in omega arith
+
+cast-count : tie.Need-cast-count
+cast-count c = let h = rw (c .before .verdict .given .1) at (c .before .before .before .pre .1) in omega arith
+
+enum-known-verdict-2 : tie.Need-enum-known-verdict-2
+enum-known-verdict-2 c = search needs
+
+cast-first-2 : tie.Need-cast-first-2
+cast-first-2 c = let h = rw (c .before .verdict2 .given .1) at (c .before .before .before .pre .0) in omega arith
+
+returns : tie.Need-returns
+returns c = rw (c .enum-told .given .1)
+
+returns-2 : tie.Need-returns-2
+returns-2 c = rw (c .before .verdict .given .1)
+
+returns-3 : tie.Need-returns-3
+returns-3 c = rw (c .before .verdict2 .given .1)
+
+pub found-answer-spec : {M : Type 1} → statement M
+found-answer-spec =
+    tie.close
+    (tie.spec
+    enum-told
+    enum-known-verdict
+    cast-first
+    cast-count
+    enum-known-verdict-2
+    cast-first-2
+    returns
+    returns-2
+    returns-3)

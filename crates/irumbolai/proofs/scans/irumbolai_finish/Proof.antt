@@ -1,0 +1,31 @@
+-- `irumbolai_finish` answers what `finish` does. Assumes nothing.
+use mathlib.Core.Path.{sym, ap, _∙_, subst}
+use native.Mathlib.Omega.{arith}
+use borrow.Author.Needs.{needs}
+use Rattle.scan.specs.declared.Scan.{Scan}
+use Rattle.scan.specs.Scans.{finishNumbers}
+use Rattle.irumbolai.specs.Answers.{unflagged}
+use Rattle.irumbolai.proofs.Verdicts.{Small, finish-small}
+use Rattle.irumbolai.proofs.scans.irumbolai_finish.Statement.{statement}
+use Rattle.irumbolai.proofs.scans.irumbolai_finish.Tie as tie
+
+scan-of-requires : tie.Need-scan-of-requires
+scan-of-requires c κs = search needs
+
+finish-requires : tie.Need-finish-requires
+finish-requires c κs = search needs
+
+verdict-answer-requires : tie.Need-verdict-answer-requires
+verdict-answer-requires c κs =
+    let small = subst Small (sym (c .finish .ensures)) (finish-small _ _) in
+    (omega (arith, small .first), omega (arith, small .count))
+
+returns : tie.Need-returns
+returns c =
+    let work = c .before .before .before .before .args .work .now in
+    let same = ap (λ (s : Scan). finishNumbers s work) (c .before .before .scan-of .ensures) in
+    c .verdict-answer .ensures ∙ ap unflagged (c .before .finish .ensures ∙ same)
+
+pub irumbolai-finish-spec : {M : Type 1} → statement M
+irumbolai-finish-spec =
+    tie.close (tie.spec scan-of-requires finish-requires verdict-answer-requires returns)

@@ -1,0 +1,22 @@
+-- `irumbolai_scrub` answers what `scrub` does. Assumes nothing.
+use mathlib.Core.Path.{sym, ap, _∙_, subst}
+use native.Mathlib.Omega.{arith}
+use borrow.Author.Needs.{needs}
+use Rattle.irumbolai.specs.Answers.{unflagged}
+use Rattle.irumbolai.proofs.Verdicts.{Small, scrub-small}
+use Rattle.irumbolai.proofs.scrubs.irumbolai_scrub.Statement.{statement}
+use Rattle.irumbolai.proofs.scrubs.irumbolai_scrub.Tie as tie
+
+scrub-requires : tie.Need-scrub-requires
+scrub-requires c κs = search needs
+
+verdict-answer-requires : tie.Need-verdict-answer-requires
+verdict-answer-requires c κs =
+    let small = subst Small (sym (c .scrub .ensures)) (scrub-small _ _ _) in
+    (omega (arith, small .first), omega (arith, small .count))
+
+returns : tie.Need-returns
+returns c = c .verdict-answer .ensures ∙ ap unflagged (c .before .scrub .ensures)
+
+pub irumbolai-scrub-spec : {M : Type 1} → statement M
+irumbolai-scrub-spec = tie.close (tie.spec scrub-requires verdict-answer-requires returns)

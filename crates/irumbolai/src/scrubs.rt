@@ -1,0 +1,65 @@
+// The scrubs of a stripe in memory, for C.
+use crate::QuickAnswer;
+use crate::VerdictAnswer;
+use crate::verdict_answer;
+use layout::Array;
+use stripe::Compared;
+ghost use mathlib.Core.Path.{_≡_};
+ghost use Rattle.stripe.specs.Verdicts.{scrubNumbers, comparedNumbers, quickNumbers};
+ghost use Rattle.irumbolai.specs.Answers.{arrayOf, unflagged, verdictFields, quickFields};
+
+// The full scrub of a stripe.
+#[no_mangle]
+pub extern "C" fn irumbolai_scrub(
+    members: usize,
+    stripes: u64,
+    volume: u8,
+    stripe: u64,
+    bytes: &[u8],
+) -> VerdictAnswer
+    ensures { λ r. ⌜ verdictFields r ≡ unflagged (scrubNumbers (arrayOf members stripes volume) stripe (now (bytes .entry))) ⌝ }
+{
+    let array = Array {
+        members,
+        stripes,
+        volume,
+    };
+    verdict_answer(stripe::scrub(array, stripe, bytes))
+}
+
+// An answer of `quick_scrub` for C.
+fn quick_answer(compared: Compared) -> QuickAnswer
+    ensures { λ r. ⌜ quickFields r ≡ unflagged (comparedNumbers compared) ⌝ }
+{
+    match compared {
+        Compared::Refused(number) => {
+            let refusal = number as u32;
+            QuickAnswer {
+                refusal,
+                differs: 0,
+                combination: 0,
+            }
+        }
+        Compared::Fits => QuickAnswer {
+            refusal: 0,
+            differs: 0,
+            combination: 0,
+        },
+        Compared::Differs { combination } => {
+            let combination = combination as u32;
+            QuickAnswer {
+                refusal: 0,
+                differs: 1,
+                combination,
+            }
+        }
+    }
+}
+
+// The stored guards of a stripe compared.
+#[no_mangle]
+pub extern "C" fn irumbolai_quick_scrub(guards: &[u16]) -> QuickAnswer
+    ensures { λ r. ⌜ quickFields r ≡ unflagged (quickNumbers (now (guards .entry))) ⌝ }
+{
+    quick_answer(stripe::quick_scrub(guards))
+}
