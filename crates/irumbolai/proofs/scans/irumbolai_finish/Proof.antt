@@ -2,8 +2,6 @@
 use mathlib.Core.Path.{sym, ap, _∙_, subst}
 use native.Mathlib.Omega.{arith}
 use borrow.Author.Needs.{needs}
-use Rattle.scan.specs.declared.Scan.{Scan}
-use Rattle.scan.specs.Scans.{finishNumbers}
 use Rattle.irumbolai.specs.Answers.{unflagged}
 use Rattle.irumbolai.proofs.Verdicts.{Small, finish-small}
 use Rattle.irumbolai.proofs.scans.irumbolai_finish.Statement.{statement}
@@ -22,9 +20,8 @@ verdict-answer-requires c κs =
 
 returns : tie.Need-returns
 returns c =
-    let work = c .before .before .before .before .args .work .now in
-    let same = ap (λ (s : Scan). finishNumbers s work) (c .before .before .scan-of .ensures) in
-    c .verdict-answer .ensures ∙ ap unflagged (c .before .finish .ensures ∙ same)
+    let told = rw (c .before .before .scan-of .ensures) at (c .before .finish .ensures) in
+    c .verdict-answer .ensures ∙ ap unflagged told
 
 pub irumbolai-finish-spec : {M : Type 1} → statement M
 irumbolai-finish-spec =
