@@ -1,0 +1,21 @@
+-- One more verdict: no count goes up by more than one. Assumes nothing.
+use mathlib.Core.Bool.{Bool, true, false, cond}
+use mathlib.Core.List.{List}
+use Prim.Native.Nat.{ℕ, _+_}
+use native.Mathlib.Omega.{arith}
+use lib.Dec.{eqb}
+use lib.ListN.{getD}
+use Rattle.report.specs.Reports.{Tally, counted}
+use Rattle.report.proofs.Stages.{Counted}
+
+pub one-more-counted : (stripe : ℕ) (t : Tally) (verdict : List ℕ) → Counted stripe t → Counted (stripe + 1) (counted t verdict)
+unfolding counted
+one-more-counted stripe t verdict q = go (eqb (getD verdict 0 0) 0) (eqb (getD verdict 0 0) 1)
+  where
+    go : (clean bad : Bool)
+        → Counted (stripe + 1)
+        (cond clean (record { clean = t .clean + 1; bad = t .bad; torn = t .torn })
+        (cond bad (record { clean = t .clean; bad = t .bad + 1; torn = t .torn }) (record { clean = t .clean; bad = t .bad; torn = t .torn + 1 })))
+    go true bad = record { clean = omega (arith, q .clean); bad = omega (arith, q .bad); torn = omega (arith, q .torn) }
+    go false true = record { clean = omega (arith, q .clean); bad = omega (arith, q .bad); torn = omega (arith, q .torn) }
+    go false false = record { clean = omega (arith, q .clean); bad = omega (arith, q .bad); torn = omega (arith, q .torn) }

@@ -1,0 +1,56 @@
+-- Images that are refused at their header, by computation: their reports, and what the calls write of one that is cut in three.
+-- Assumes nothing.
+use mathlib.Core.Path.{_≡_, refl}
+use mathlib.Core.List.{List, [], _∷_}
+use Prim.Native.Nat.{ℕ}
+use Rattle.layout.specs.Arrays.{arrayRefusal}
+use Rattle.tag.specs.Numbers.{numberOf}
+use Rattle.report.specs.Text.{decimal, refusedWord}
+use Rattle.report.specs.Reports.{arrayIn, headerRefusal, refusedLine, reportOf}
+use Rattle.report.specs.Feeding.{lineRoom, headerWhole, headerTook, stageStep, feedStep, closeLine, freshReport, fedText}
+
+-- "REFUSED ", a digit, and the end of the line
+refusedWith : ℕ → List ℕ
+refusedWith digit = 0x52 ∷ 0x45 ∷ 0x46 ∷ 0x55 ∷ 0x53 ∷ 0x45 ∷ 0x44 ∷ 0x20 ∷ digit ∷ 0x0A ∷ []
+
+-- no byte at all
+nothing-came : reportOf [] ≡ 0x52 ∷ 0x45 ∷ 0x46 ∷ 0x55 ∷ 0x53 ∷ 0x45 ∷ 0x44 ∷ 0x20 ∷ 0x31 ∷ 0x30 ∷ 0x0A ∷ []
+unfolding reportOf headerRefusal arrayRefusal arrayIn numberOf refusedLine refusedWord decimal
+nothing-came = refl
+
+-- another length; another version
+other-length : reportOf (0 ∷ 8 ∷ 1 ∷ 3 ∷ 7 ∷ 0 ∷ 0 ∷ 0 ∷ 1 ∷ []) ≡ refusedLine 10
+unfolding reportOf headerRefusal arrayRefusal arrayIn numberOf
+other-length = refl
+
+other-version : reportOf (0 ∷ 7 ∷ 2 ∷ 3 ∷ 7 ∷ 0 ∷ 0 ∷ 0 ∷ 1 ∷ []) ≡ refusedLine 10
+unfolding reportOf headerRefusal arrayRefusal arrayIn numberOf
+other-version = refl
+
+-- two members; no stripe
+two-members : reportOf (0 ∷ 7 ∷ 1 ∷ 2 ∷ 7 ∷ 0 ∷ 0 ∷ 0 ∷ 1 ∷ []) ≡ refusedWith 0x31
+unfolding reportOf headerRefusal arrayRefusal arrayIn numberOf refusedLine refusedWord decimal refusedWith
+two-members = refl
+
+no-stripes : reportOf (0 ∷ 7 ∷ 1 ∷ 3 ∷ 7 ∷ 0 ∷ 0 ∷ 0 ∷ 0 ∷ []) ≡ refusedWith 0x32
+unfolding reportOf headerRefusal arrayRefusal arrayIn numberOf refusedLine refusedWord decimal refusedWith
+no-stripes = refl
+
+-- two members, in three pieces, one of them empty, and two bytes after the header
+three-pieces : (w : List ℕ) → fedText lineRoom freshReport ((0 ∷ 7 ∷ []) ∷ [] ∷ (1 ∷ 2 ∷ 7 ∷ 0 ∷ 0 ∷ 0 ∷ 1 ∷ 9 ∷ 9 ∷ []) ∷ []) w ≡ refusedWith 0x31
+unfolding
+    headerWhole
+    headerTook
+    stageStep
+    feedStep
+    closeLine
+    freshReport
+    headerRefusal
+    arrayRefusal
+    arrayIn
+    numberOf
+    refusedLine
+    refusedWord
+    decimal
+    refusedWith
+three-pieces w = refl

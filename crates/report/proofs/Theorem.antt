@@ -1,0 +1,48 @@
+-- The theorem of the report: however the image is cut, all that is written, joined, is the report of all that was used, joined.
+-- The invariant: what is yet to be said, by where the report stands, is what the calls to come write.
+-- `Run` is the relation of specs/Runs; `fedText`, of specs/Feeding, is what a list of pieces writes, each fed until it is used up.
+-- Assumes nothing.
+use mathlib.Core.Path.{_≡_, sym, ap, ap₂, refl, _∙_, subst}
+use mathlib.Core.List.{List, [], _++_}
+use Prim.Native.Nat.{ℕ, _≤_}
+use lib.ListN.{length, take, replicate, length-replicate}
+use Rattle.tag.specs.Blocks.{dataLength}
+use Rattle.stripe.specs.Tables.{joined}
+use Rattle.report.specs.declared.Report.{Report}
+use Rattle.report.specs.Reports.{reportOf}
+use Rattle.report.specs.Feeding.{lineRoom, freshReport, feedLine, closeLine, fedText}
+use Rattle.report.specs.Runs.{Run, closed, fed}
+use Rattle.report.proofs.Storing.{written-there}
+use Rattle.report.proofs.Stages.{Stage, inHeader, toSay, Stands}
+use Rattle.report.proofs.Beginning.{fresh-stands}
+use Rattle.report.proofs.Stepping.{feed-leads}
+use Rattle.report.proofs.Closing.{close-says, close-fits}
+use Rattle.report.proofs.Occurring.{pieces-run}
+
+run-says : {s : Report} {w image text : List ℕ} → Run s w image text → (g : Stage) → Stands g s w → text ≡ toSay g image
+run-says (closed {s = s} {w = w} {out′ = out′} out written wide e f) g q =
+    let line : take written out′ ≡ closeLine s (length out) =
+    rw (e, f) (written-there out (closeLine s (length out)) (close-fits s w (length out) wide g q)) in
+    line ∙ close-says s w (length out) wide g q
+run-says (fed {s = s} {w = w} {w′ = w′} {out′ = out′} {image = image} input out r e f k d o run) g q =
+    let m = feed-leads s input w (length out) g q in
+    let line : take (r .written) out′ ≡ feedLine s input w (length out) =
+    rw (k, o) (written-there out (feedLine s input w (length out)) (m .fits)) in
+    let stands : Stands (m .to) (r .state) w′ = rw (f, d) (m .stands) in
+    ap₂ (λ (x y : List ℕ). x ++ y) line (run-says run (m .to) stands)
+    ∙ sym (m .says image) ∙ ap (λ (n : ℕ). toSay g (take n input ++ image)) (sym e)
+
+-- ---- from the new state, with any work buffer of as many bytes as a block has of data, whatever it holds
+
+-- every run of the calls, as they promise: with any inputs, of which each call uses what it does, and any output buffers
+pub run-writes-the-report : {s : Report} {w image text : List ℕ} → s ≡ freshReport → length w ≡ dataLength
+    → Run s w image text → text ≡ reportOf image
+run-writes-the-report {s} {w} new long run = run-says run (inHeader []) (rw new (fresh-stands w long))
+
+-- every list of pieces, empty ones too, where each call has room for a line
+pub pieces-write-the-report : (room : ℕ) → lineRoom ≤ room → (w : List ℕ) → length w ≡ dataLength
+    → (pieces : List (List ℕ)) → fedText room freshReport pieces w ≡ reportOf (joined pieces)
+pieces-write-the-report room wide w long pieces =
+    subst (λ (n : ℕ). fedText n freshReport pieces w ≡ reportOf (joined pieces)) (length-replicate {A = ℕ} room 0)
+    (run-writes-the-report refl long
+    (pieces-run (replicate room 0) (rw (length-replicate {A = ℕ} room 0) wide) pieces freshReport w (inHeader []) (fresh-stands w long)))

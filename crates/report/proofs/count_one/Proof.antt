@@ -1,0 +1,40 @@
+-- `report::count_one` meets its contract, verdict by verdict. Assumes nothing.
+use borrow.Author.Needs.{needs}
+use Rattle.report.specs.Reports.{counted}
+use Rattle.report.proofs.count_one.Statement.{statement}
+use Rattle.report.proofs.count_one.Tie as tie
+
+enum-told : tie.Need-enum-told
+enum-told c = search needs
+
+add-t6 : tie.Need-add-t6
+add-t6 c = search needs
+
+enum-told-2 : tie.Need-enum-told-2
+enum-told-2 c = search needs
+
+add-t7 : tie.Need-add-t7
+add-t7 c = search needs
+
+enum-told-3 : tie.Need-enum-told-3
+enum-told-3 c = search needs
+
+add-t8 : tie.Need-add-t8
+add-t8 c = search needs
+
+returns : tie.Need-returns
+unfolding counted
+returns c = rw (c .enum-told .given .1)
+
+returns-2 : tie.Need-returns-2
+unfolding counted
+returns-2 c = rw (c .enum-told2 .given .1)
+
+returns-3 : tie.Need-returns-3
+unfolding counted
+returns-3 c = rw (c .enum-told3 .given .1)
+
+pub count-one-spec : {M : Type 1} → statement M
+count-one-spec =
+    tie.close
+    (tie.spec enum-told add-t6 enum-told-2 add-t7 enum-told-3 add-t8 returns returns-2 returns-3)

@@ -1,0 +1,198 @@
+-- A report that is fed: what one call of feed does, and what close and new give, on any state and any buffers, not only those that a
+-- run leads to. A call uses a first part of the input and writes at most one line. Assumes nothing.
+use Prim.Native.Nat.{ℕ, zero, suc, _+_, _-_, _/_, _%_}
+use mathlib.Core.Path.{_≡_}
+use mathlib.Core.Bool.{Bool, cond, _&&_, _||_}
+use mathlib.Core.List.{List, [], _∷_, _++_}
+use lib.Dec.{leb, ltb, eqb}
+use lib.ListN.{length, getD, take, drop, replicate}
+use lib.Seq.{sets}
+use Rattle.layout.specs.Arrays.{stripeRefusal}
+use Rattle.tag.specs.Blocks.{blockLength}
+use Rattle.stripe.specs.Stripes.{stripeLength}
+use Rattle.scan.specs.declared.Scan.{Scan}
+use Rattle.scan.specs.Scans.{noArray, emptyScan, startState, startWork, pieceState, pieceWork, finishNumbers}
+use Rattle.report.specs.declared.Report.{Report}
+use Rattle.report.specs.declared.Fed.{Fed}
+use Rattle.report.specs.Reports.{
+  headerLength,
+  arrayIn,
+  headerRefusal,
+  firstLine,
+  refusedLine,
+  stripeLine,
+  Tally,
+  none,
+  counted,
+  totalLine,
+}
+
+-- what a call leaves: how many bytes of the input it used, the state, the work buffer, and the line that it wrote, [] where it wrote none
+pub record Step : Type 0 where
+  pub used : ℕ
+  pub state : Report
+  pub work : List ℕ
+  pub line : List ℕ
+
+-- a call does a step: its answer is the step's, the work buffer is, and the line stands at the start of the output buffer, whose other
+-- bytes stay
+pub record Does (step : Step) (answer : Fed) (work out outAfter : List ℕ) : Type 0 where
+  pub uses : answer .used ≡ step .used
+  pub leaves : answer .state ≡ step .state
+  pub writes : answer .written ≡ length (step .line)
+  pub combines : work ≡ step .work
+  pub shows : outAfter ≡ sets out 0 (step .line)
+
+-- no line is longer; with less room for output a call does nothing
+abbrev pub lineRoom : ℕ
+lineRoom = 128
+
+abbrev pub tallyOf : Report → Tally
+tallyOf r = record { clean = r .clean; bad = r .bad; torn = r .torn }
+
+-- ---- states: with more bytes held, of the header or by the scan; at the start of a stage or of a stripe; with the last line written
+
+abbrev pub holding : Report → List ℕ → ℕ → Scan → Report
+holding r header have scan =
+    record { stage = r .stage; header = header; have = have; scan = scan; clean = r .clean; bad = r .bad; torn = r .torn }
+
+abbrev pub entering : ℕ → List ℕ → Scan → Tally → Report
+entering stage header scan t =
+    record { stage = stage; header = header; have = 0; scan = scan; clean = t .clean; bad = t .bad; torn = t .torn }
+
+abbrev pub ended : Report → Report
+ended r =
+    record { stage = 3; header = r .header; have = r .have; scan = r .scan; clean = r .clean; bad = r .bad; torn = r .torn }
+
+-- ---- the header
+
+-- the header is whole: the first line, and the scan of the first stripe; or the header's refusal
+unfoldable pub headerWhole : ℕ → Report → List ℕ → Step
+headerWhole used r work =
+    let a = arrayIn (r .header) in
+    cond (eqb (headerRefusal (r .header)) 0)
+    (record { used = used; state = entering 1 (r .header) (startState a 0 (length work)) none; work = startWork a 0 work; line = firstLine a })
+    (record { used = used; state = ended r; work = work; line = refusedLine (headerRefusal (r .header)) })
+
+-- bytes of the header
+unfoldable pub headerTook : Report → List ℕ → List ℕ → Step
+headerTook r bytes work =
+    let held = holding r (sets (r .header) (r .have) bytes) (r .have + length bytes) (r .scan) in
+    cond (ltb (r .have + length bytes) headerLength)
+    (record { used = length bytes; state = held; work = work; line = [] })
+    (headerWhole (length bytes) held work)
+
+-- how many bytes the header lacks
+abbrev pub headerLacks : Report → ℕ
+headerLacks r = headerLength - r .have
+
+-- ---- the stripes
+
+-- a state within the stripes is fit: its array and stripe are in range, its stripe is not whole yet, and no count is above the number
+-- of the stripes before it
+unfoldable pub stripeFit : Report → Bool
+stripeFit r =
+    eqb (stripeRefusal (r .scan .array) (r .scan .stripe)) 0
+    && ltb (r .have) (stripeLength (r .scan .array))
+    && leb (r .clean) (r .scan .stripe)
+    && leb (r .bad) (r .scan .stripe)
+    && leb (r .torn) (r .scan .stripe)
+
+-- the stripe has its verdict: its line, and the scan of the stripe after it, if there is one
+unfoldable pub stripeJudged : ℕ → Report → List ℕ → List ℕ → Step
+stripeJudged used r work verdict =
+    let a = r .scan .array in
+    let next = r .scan .stripe + 1 in
+    let line = stripeLine (r .scan .stripe) verdict in
+    let tally = counted (tallyOf r) verdict in
+    cond (ltb next (a .stripes))
+    (record { used = used; state = entering 1 (r .header) (startState a next (length work)) tally; work = startWork a next work; line = line })
+    (record { used = used; state = entering 2 (r .header) (r .scan) tally; work = work; line = line })
+
+-- the stripe is whole, with the scan's answer in numbers; where the scan refuses to judge, its refusal number, and the report is over
+unfoldable pub stripeWhole : ℕ → Report → List ℕ → List ℕ → Step
+stripeWhole used r work answer =
+    cond (eqb (getD answer 0 0) 1) (stripeJudged used r work (drop 2 answer))
+    (record { used = used; state = ended r; work = work; line = refusedLine (getD answer 1 0) })
+
+-- bytes of one block of the stripe
+unfoldable pub stripeTook : Report → List ℕ → List ℕ → Step
+stripeTook r bytes work =
+    let member = r .have / blockLength in
+    let scan = pieceState (r .scan) member bytes (length work) in
+    let combined = pieceWork (r .scan) member bytes work in
+    let held = holding r (r .header) (r .have + length bytes) scan in
+    cond (ltb (r .have + length bytes) (stripeLength (r .scan .array)))
+    (record { used = length bytes; state = held; work = combined; line = [] })
+    (stripeWhole (length bytes) held combined (finishNumbers scan combined))
+
+-- how many bytes the block lacks that comes now
+abbrev pub blockLacks : Report → ℕ
+blockLacks r = blockLength - r .have % blockLength
+
+-- ---- feed
+
+abbrev pub idle : Report → List ℕ → Step
+idle r work = record { used = 0; state = r; work = work; line = [] }
+
+-- the whole input passed over
+abbrev pub skipped : Report → List ℕ → List ℕ → Step
+skipped r input work = record { used = length input; state = r; work = work; line = [] }
+
+-- behind the last stripe any byte is one too many
+abbrev pub tooLong : Report → List ℕ → List ℕ → Step
+tooLong r input work = record { used = length input; state = ended r; work = work; line = refusedLine 11 }
+
+-- by the stage
+unfoldable pub stageStep : Report → List ℕ → List ℕ → Step
+stageStep r input work =
+    cond (eqb (r .stage) 0) (headerTook r (take (headerLacks r) input) work)
+    (cond (eqb (r .stage) 1) (cond (stripeFit r) (stripeTook r (take (blockLacks r) input) work) (skipped r input work))
+    (cond (eqb (r .stage) 2) (tooLong r input work) (skipped r input work)))
+
+-- of a state, an input, a work buffer, and the room for output
+unfoldable pub feedStep : Report → List ℕ → List ℕ → ℕ → Step
+feedStep r input work room = cond (ltb room lineRoom || eqb (length input) 0) (idle r work) (stageStep r input work)
+
+abbrev pub feedUsed : Report → List ℕ → List ℕ → ℕ → ℕ
+feedUsed r input work room = feedStep r input work room .used
+
+abbrev pub feedState : Report → List ℕ → List ℕ → ℕ → Report
+feedState r input work room = feedStep r input work room .state
+
+abbrev pub feedWork : Report → List ℕ → List ℕ → ℕ → List ℕ
+feedWork r input work room = feedStep r input work room .work
+
+abbrev pub feedLine : Report → List ℕ → List ℕ → ℕ → List ℕ
+feedLine r input work room = feedStep r input work room .line
+
+-- ---- close: the last line, if it is not written yet
+
+unfoldable pub closeLine : Report → ℕ → List ℕ
+closeLine r room =
+    cond (ltb room lineRoom) []
+    (cond (eqb (r .stage) 0) (refusedLine 10)
+    (cond (eqb (r .stage) 1) (refusedLine 11) (cond (eqb (r .stage) 2) (totalLine (r .scan .array) (tallyOf r)) [])))
+
+-- ---- new
+
+unfoldable pub freshReport : Report
+freshReport = entering 0 (replicate headerLength 0) (emptyScan noArray 0) none
+
+-- ---- a whole input in pieces, where each call has this room for output
+
+module _ (room : ℕ) where
+  -- one piece, in at most so many calls, each of which gets what the one before it did not use
+  abbrev pub feedAll : ℕ → Report → List ℕ → List ℕ → Step
+  feedAll zero r input work = idle r work
+  feedAll (suc calls) r input work =
+      let first = feedStep r input work room in
+      let rest = feedAll calls (first .state) (drop (first .used) input) (first .work) in
+      record { used = first .used + rest .used; state = rest .state; work = rest .work; line = first .line ++ rest .line }
+
+  -- each piece in as many calls as it has bytes, then a close: all that is written
+  abbrev pub fedText : Report → List (List ℕ) → List ℕ → List ℕ
+  fedText r [] work = closeLine r room
+  fedText r (piece ∷ pieces) work =
+      let fed = feedAll (length piece) r piece work in
+      fed .line ++ fedText (fed .state) pieces (fed .work)

@@ -1,0 +1,27 @@
+-- A run of calls of feed, and then one of close: each gets the state and the work buffer that the one before it left, and its answer,
+-- state and buffers are what its promise says. Assumes nothing.
+use mathlib.Core.Path.{_≡_}
+use mathlib.Core.List.{List, [], _++_}
+use Prim.Native.Nat.{ℕ, _≤_}
+use lib.ListN.{length, take}
+use lib.Seq.{sets}
+use Rattle.report.specs.declared.Report.{Report}
+use Rattle.report.specs.declared.Fed.{Fed}
+use Rattle.report.specs.Feeding.{lineRoom, feedUsed, feedState, feedWork, feedLine, closeLine}
+
+-- from a state and a work buffer, over the bytes that the calls use, to the bytes that they write; each call has an input, and an
+-- output buffer, of its own
+pub data Run : Report → List ℕ → List ℕ → List ℕ → Type 0 where
+  closed : {s : Report} {w out′ : List ℕ} (out : List ℕ) (written : ℕ)
+      → lineRoom ≤ length out
+      → written ≡ length (closeLine s (length out))
+      → out′ ≡ sets out 0 (closeLine s (length out))
+      → Run s w [] (take written out′)
+  fed : {s : Report} {w w′ out′ image text : List ℕ} (input out : List ℕ) (r : Fed)
+      → r .used ≡ feedUsed s input w (length out)
+      → r .state ≡ feedState s input w (length out)
+      → r .written ≡ length (feedLine s input w (length out))
+      → w′ ≡ feedWork s input w (length out)
+      → out′ ≡ sets out 0 (feedLine s input w (length out))
+      → Run (r .state) w′ image text
+      → Run s w (take (r .used) input ++ image) (take (r .written) out′ ++ text)

@@ -1,0 +1,309 @@
+// The report of an image that comes in pieces: what is held between the calls, and the lines, each written from the start of a
+// lent buffer.
+mod feeding;
+mod header;
+mod stripes;
+
+pub use feeding::close;
+pub use feeding::feed;
+pub use feeding::new;
+use layout::Array;
+use scan::Scan;
+use stripe::Scrubbed;
+use stripe::Verdict;
+use tag::BLOCK;
+ghost use mathlib.Core.Path.{_≡_};
+ghost use mathlib.Core.Bool.{true};
+ghost use mathlib.Core.List.{_++_};
+ghost use Prim.Native.Nat.{_+_, _≤_};
+ghost use lib.ListN.{length};
+ghost use Rattle.stripe.specs.Verdicts.{verdictNumbers};
+ghost use Rattle.scan.specs.Scans.{finishNumbers};
+ghost use Rattle.report.specs.Text.{Written, decimal, scrubWord};
+ghost use Rattle.report.specs.Reports.{firstLine, stripeLine, totalLine, refusedLine, counted};
+ghost use Rattle.report.specs.Feeding.{
+  Does,
+  holding,
+  entering,
+  ended,
+  stripeFit,
+  stripeJudged,
+  stripeWhole,
+  stripeTook,
+  blockLacks,
+};
+
+// Where a report stands between the calls, beside the work buffer.
+// stage: 0 in the header, 1 in the stripes, 2 behind the last stripe, 3 when the last line is written.
+// have: how many bytes of the header, or of the stripe, have come.
+pub struct Report {
+    pub stage: u8,
+    pub header: [u8; 9],
+    pub have: usize,
+    pub scan: Scan,
+    pub clean: u64,
+    pub bad: u64,
+    pub torn: u64,
+}
+
+// The state to go on with, how many bytes of the input were used, and how many were written.
+pub struct Fed {
+    pub state: Report,
+    pub used: usize,
+    pub written: usize,
+}
+
+// Copies `bytes` into `out` from a place on, and answers the place behind them.
+fn put(out: &mut [u8], at: usize, bytes: &[u8]) -> usize
+    requires { ⌜ at + length (now bytes) ≤ length (now out) ⌝ }
+    ensures { λ r. ⌜ Written (now (out .entry)) at (now (bytes .entry)) (now (out .exit)) r ⌝ }
+{
+    let mut i: usize = 0;
+    while i < bytes.len() {
+        out[at + i] = bytes[i];
+        i += 1;
+    }
+    at + bytes.len()
+}
+
+// Writes a number in decimal, which is at most twenty digits.
+fn number(out: &mut [u8], at: usize, n: u64) -> usize
+    requires { ⌜ at + 20 ≤ length (now out) ⌝ }
+    ensures { λ r. ⌜ r ≤ at + 20 ⌝ }
+    ensures { λ r. ⌜ Written (now (out .entry)) at (decimal n) (now (out .exit)) r ⌝ }
+{
+    let mut digits = [0u8; 20];
+    let count = io::decimal(n, &mut digits);
+    put(out, at, &digits[..count])
+}
+
+// Writes a word and a number behind it.
+fn word_and_number(out: &mut [u8], at: usize, word: &[u8], n: u64) -> usize
+    requires { ⌜ at + length (now word) + 20 ≤ length (now out) ⌝ }
+    ensures { λ r. ⌜ r ≤ at + length (now (word .entry)) + 20 ⌝ }
+    ensures { λ r. ⌜ Written (now (out .entry)) at (now (word .entry) ++ decimal n) (now (out .exit)) r ⌝ }
+{
+    let place = put(out, at, word);
+    number(out, place, n)
+}
+
+// The eight bytes that every report begins with, unless its header is refused.
+fn scrub_word(out: &mut [u8]) -> usize
+    requires { ⌜ 8 ≤ length (now out) ⌝ }
+    ensures { λ r. ⌜ Written (now (out .entry)) 0 scrubWord (now (out .exit)) r ⌝ }
+{
+    put(out, 0, b"SCRUB v1")
+}
+
+// The first line: the array's members and stripes.
+fn first_line(out: &mut [u8], array: Array) -> usize
+    requires { ⌜ 128 ≤ length (now out) ⌝ }
+    ensures { λ r. ⌜ Written (now (out .entry)) 0 (firstLine array) (now (out .exit)) r ⌝ }
+{
+    let members = array.members as u64;
+    let stripes = array.stripes;
+    let word = scrub_word(out);
+    let numbers = word_and_number(out, word, b" members ", members);
+    let line = word_and_number(out, numbers, b" stripes ", stripes);
+    put(out, line, b"\n")
+}
+
+// The line of a stripe: its verdict, with the member and the count or the place.
+fn stripe_line(out: &mut [u8], stripe: u64, verdict: Verdict) -> usize
+    requires { ⌜ 128 ≤ length (now out) ⌝ }
+    ensures { λ r. ⌜ Written (now (out .entry)) 0 (stripeLine stripe (verdictNumbers verdict)) (now (out .exit)) r ⌝ }
+{
+    let at = number(out, 0, stripe);
+    match verdict {
+        Verdict::Clean => put(out, at, b" CLEAN\n"),
+        Verdict::Bad { member, count } => {
+            let lowest = word_and_number(out, at, b" BAD ", member as u64);
+            let line = word_and_number(out, lowest, b" ", count as u64);
+            put(out, line, b"\n")
+        }
+        Verdict::Torn { place } => {
+            let line = word_and_number(out, at, b" TORN ", place as u64);
+            put(out, line, b"\n")
+        }
+    }
+}
+
+// The last line: how many stripes there are, and how many of them were clean, bad and torn.
+fn total_line(out: &mut [u8], array: Array, clean: u64, bad: u64, torn: u64) -> usize
+    requires { ⌜ 128 ≤ length (now out) ⌝ }
+    ensures { λ r. ⌜ Written (now (out .entry)) 0 (totalLine array (record { clean = clean; bad = bad; torn = torn })) (now (out .exit)) r ⌝ }
+{
+    let stripes = array.stripes;
+    let total = word_and_number(out, 0, b"TOTAL ", stripes);
+    let cleans = word_and_number(out, total, b" clean ", clean);
+    let bads = word_and_number(out, cleans, b" bad ", bad);
+    let line = word_and_number(out, bads, b" torn ", torn);
+    put(out, line, b"\n")
+}
+
+// The line of a refusal.
+fn refused_line(out: &mut [u8], refusal: u8) -> usize
+    requires { ⌜ 128 ≤ length (now out) ⌝ }
+    ensures { λ r. ⌜ Written (now (out .entry)) 0 (refusedLine refusal) (now (out .exit)) r ⌝ }
+{
+    let line = word_and_number(out, 0, b"REFUSED ", refusal as u64);
+    put(out, line, b"\n")
+}
+
+// The state at the start of a stage or of a stripe.
+fn entering(stage: u8, header: [u8; 9], scan: Scan, clean: u64, bad: u64, torn: u64) -> Report
+    ensures { λ r. ⌜ r ≡ entering stage header scan (record { clean = clean; bad = bad; torn = torn }) ⌝ }
+{
+    Report {
+        stage: stage,
+        header: header,
+        have: 0,
+        scan: scan,
+        clean: clean,
+        bad: bad,
+        torn: torn,
+    }
+}
+
+// The state when the last line is written.
+fn ended(report: Report) -> Report
+    ensures { λ r. ⌜ r ≡ ended report ⌝ }
+{
+    let mut last = report;
+    last.stage = 3;
+    last
+}
+
+// The state with more bytes of the stripe.
+fn stripe_held(report: Report, have: usize, scan: Scan) -> Report
+    ensures { λ r. ⌜ r ≡ holding report (report .header) have scan ⌝ }
+{
+    let mut held = report;
+    held.have = have;
+    held.scan = scan;
+    held
+}
+
+// How many stripes were clean, bad and torn.
+struct Counts {
+    clean: u64,
+    bad: u64,
+    torn: u64,
+}
+
+// The counts with one more verdict.
+fn count_one(clean: u64, bad: u64, torn: u64, verdict: Verdict) -> Counts
+    requires { ⌜ clean + bad + torn ≤ 4294967296 ⌝ }
+    ensures { λ r. ⌜ record { clean = r .clean; bad = r .bad; torn = r .torn } ≡ counted (record { clean = clean; bad = bad; torn = torn }) (verdictNumbers verdict) ⌝ }
+{
+    match verdict {
+        Verdict::Clean => Counts {
+            clean: clean + 1,
+            bad: bad,
+            torn: torn,
+        },
+        Verdict::Bad {
+            member: _,
+            count: _,
+        } => Counts {
+            clean: clean,
+            bad: bad + 1,
+            torn: torn,
+        },
+        Verdict::Torn { place: _ } => Counts {
+            clean: clean,
+            bad: bad,
+            torn: torn + 1,
+        },
+    }
+}
+
+// The stripe has its verdict: its line, and the scan of the stripe after it, if there is one.
+fn stripe_judged(
+    used: usize,
+    report: Report,
+    verdict: Verdict,
+    work: &mut [u8],
+    out: &mut [u8],
+) -> Fed
+    requires { ⌜ 128 ≤ length (now out) ⌝ }
+    requires { ⌜ report .scan .stripe + (report .clean + report .bad + report .torn) ≤ 4294967296 ⌝ }
+    ensures { λ r. ⌜ Does (stripeJudged used report (now (work .entry)) (verdictNumbers verdict)) r (now (work .exit)) (now (out .entry)) (now (out .exit)) ⌝ }
+{
+    let header = report.header;
+    let scan = report.scan;
+    let array = scan.array;
+    let stripe = scan.stripe;
+    let stripes = array.stripes;
+    let written = stripe_line(out, stripe, verdict);
+    let counts = count_one(report.clean, report.bad, report.torn, verdict);
+    let clean = counts.clean;
+    let bad = counts.bad;
+    let torn = counts.torn;
+    let next = stripe + 1;
+    if next < stripes {
+        let begun = scan::start(array, next, work);
+        let fresh = begun.state;
+        let state = entering(1, header, fresh, clean, bad, torn);
+        return Fed {
+            state: state,
+            used: used,
+            written: written,
+        };
+    }
+    let state = entering(2, header, scan, clean, bad, torn);
+    Fed {
+        state: state,
+        used: used,
+        written: written,
+    }
+}
+
+// The stripe is whole: by the scan's verdict, or the scan's refusal number, and the report is over.
+fn stripe_whole(used: usize, report: Report, work: &mut [u8], out: &mut [u8]) -> Fed
+    requires { ⌜ 128 ≤ length (now out) ⌝ }
+    requires { ⌜ report .scan .stripe + (report .clean + report .bad + report .torn) ≤ 4294967296 ⌝ }
+    ensures { λ r. ⌜ Does (stripeWhole used report (now (work .entry)) (finishNumbers (report .scan) (now (work .entry)))) r (now (work .exit)) (now (out .entry)) (now (out .exit)) ⌝ }
+{
+    let scan = report.scan;
+    let answer = scan::finish(scan, work);
+    match answer {
+        Scrubbed::Refused(number) => {
+            let written = refused_line(out, number);
+            let state = ended(report);
+            Fed {
+                state: state,
+                used: used,
+                written: written,
+            }
+        }
+        Scrubbed::Found(verdict) => stripe_judged(used, report, verdict, work, out),
+    }
+}
+
+// Bytes of one block of the stripe.
+fn stripe_took(report: Report, bytes: &[u8], work: &mut [u8], out: &mut [u8]) -> Fed
+    requires { ⌜ stripeFit report ≡ true ⌝ }
+    requires { ⌜ length (now bytes) ≤ blockLacks report ⌝ }
+    requires { ⌜ 128 ≤ length (now out) ⌝ }
+    ensures { λ r. ⌜ Does (stripeTook report (now (bytes .entry)) (now (work .entry))) r (now (work .exit)) (now (out .entry)) (now (out .exit)) ⌝ }
+{
+    let scan = report.scan;
+    let array = scan.array;
+    let members = array.members;
+    let have = report.have;
+    let count = bytes.len();
+    let member = have / BLOCK;
+    let taken = scan::piece(scan, member, bytes, work);
+    let next = taken.state;
+    let now = have + count;
+    let held = stripe_held(report, now, next);
+    if now < BLOCK * members {
+        return Fed {
+            state: held,
+            used: count,
+            written: 0,
+        };
+    }
+    stripe_whole(count, held, work, out)
+}
