@@ -1,5 +1,6 @@
 -- The two torn stripes of the bench figures: three members, all data zero but the end of the parity, and every tag the one due. The
--- scrub finds the first byte of that end in both; the stored guards tell of one of them, and cannot of the other. Assumes nothing.
+-- scrub finds the first byte of that end in both; the stored guards tell of one of them, and cannot of the other. A rebuild gives back a
+-- wrong block whose tag fits. Assumes nothing.
 use mathlib.Core.Path.{_≡_, refl, sym, ap, _∙_, subst}
 use mathlib.Core.Bool.{true}
 use mathlib.Core.List.{List, [], _∷_, _++_, map}
@@ -11,7 +12,7 @@ use lib.Dec.{lit<, lit≤}
 use lib.ListN.{length, getD, replicate, length-append, length-replicate, getD-replicate, List·getD-append}
 use lib.Seq.{getD-at}
 use Rattle.xor.specs.Xors.{xors, addAll, combination}
-use Rattle.xor.proofs.Lists.{xors-zeros, zeros-xors}
+use Rattle.xor.proofs.Lists.{xors-zeros, zeros-xors, xors-twice}
 use Rattle.crc.specs.Crc.{bits, bitsOf, bitStep, feed, Bytes}
 use Rattle.crc.specs.Guard.{run, guard}
 use Rattle.crc.proofs.Joined.{run-joined}
@@ -22,7 +23,16 @@ use Rattle.tag.specs.Blocks.{dataLength, blockLength, dataOf}
 use Rattle.tag.specs.Tags.{good, tagged}
 use Rattle.tag.proofs.Numbers.{bytes-joined}
 use Rattle.tag.proofs.Tagged.{length-tagged, data-of-tagged, tagged-good, bytes-tagged}
+use Rattle.stripe.specs.Tables.{joined}
+use Rattle.stripe.specs.Stripes.{stripeLength, blockOf, memberData, othersData}
+use Rattle.stripe.specs.Jobs.{rebuildRefusal, rebuilt}
 use Rattle.stripe.specs.Verdicts.{storedGuard, combinedGuards, quickNumbers, scrubBlocks}
+use Rattle.stripe.proofs.Tables.{table-ext}
+use Rattle.stripe.proofs.Blocks.{span-joined, length-joined}
+use Rattle.stripe.proofs.Others.{good-others}
+use Rattle.stripe.proofs.Rebuilds.{rebuild-others}
+use Rattle.stripe.proofs.Parity.{all-with-others}
+use Rattle.stripe.proofs.Restores.{rebuilt-data, rebuilt-good}
 use Rattle.stripe.proofs.Verdicts.{FirstNonzero}
 use Rattle.stripe.proofs.Scrubs.{blocks-torn}
 use Rattle.stripe.proofs.Quick.{Whole, bytes-zeros, guard-zeros, sound-quick, quick-fits, quick-differs, guards-combined}
@@ -114,6 +124,38 @@ module _ (size zeros x : ℕ) (rest : List ℕ) (data-size : size ≡ dataLength
       none-bad : getD (scrubBlocks bench 0 (tornBlocks size zeros (x ∷ rest))) 0 0 ≢ 1
       none-bad e = let two : _≡_ {A = ℕ} 2 1 = sym (ap (λ (l : List ℕ). getD l 0 0) torn-there) ∙ e in omega arith
 
+  -- ---- a rebuild of a data member, whose data are zeros: what comes back is the parity's ending, in a block that is good
+
+  block-there : (m : ℕ) → m < 3 → blockOf (joined (tornBlocks size zeros (x ∷ rest))) m ≡ getD (tornBlocks size zeros (x ∷ rest)) m []
+  block-there m h = span-joined blockLength 3 (λ m. getD (tornBlocks size zeros (x ∷ rest)) m []) m (whole .long) h
+
+  in-memory : length (joined (tornBlocks size zeros (x ∷ rest))) ≡ stripeLength bench
+  in-memory = length-joined blockLength 3 (λ m. getD (tornBlocks size zeros (x ∷ rest)) m []) (whole .long)
+
+  was-zero : dataOf (blockOf (joined (tornBlocks size zeros (x ∷ rest))) 1) ≡ replicate size 0
+  was-zero = ap dataOf (block-there 1 (lit< tt)) ∙ data-of-tagged bench 0 1 (replicate size 0) zeros-long
+
+  made-of-others : othersData 3 1 (joined (tornBlocks size zeros (x ∷ rest))) ≡ zerosThen zeros (x ∷ rest)
+  made-of-others =
+      let bytes = joined (tornBlocks size zeros (x ∷ rest)) in
+      let same : memberData 3 bytes ≡ map dataOf (tornBlocks size zeros (x ∷ rest)) = table-ext 3 (λ m. dataOf (blockOf bytes m)) (λ m. dataOf (getD (tornBlocks size zeros (x ∷ rest)) m [])) (λ m h. ap dataOf (block-there m h)) in
+      sym (xors-twice (othersData 3 1 bytes) (dataOf (blockOf bytes 1)))
+      ∙ ap (λ (l : List ℕ). xors l (dataOf (blockOf bytes 1))) (sym (all-with-others 3 1 bytes (lit< tt)) ∙ ap (combination dataLength) same ∙ combined)
+      ∙ ap (xors (zerosThen zeros (x ∷ rest))) was-zero ∙ xors-zeros (zerosThen zeros (x ∷ rest)) size
+
+  pub rebuilt-wrong : (rebuildRefusal bench 0 1 (joined (tornBlocks size zeros (x ∷ rest))) ≡ 0)
+      × (dataOf (blockOf (joined (tornBlocks size zeros (x ∷ rest))) 1) ≡ replicate size 0)
+      × (dataOf (blockOf (rebuilt bench 0 1 (joined (tornBlocks size zeros (x ∷ rest)))) 1) ≡ zerosThen zeros (x ∷ rest))
+      × (good bench 0 1 (blockOf (rebuilt bench 0 1 (joined (tornBlocks size zeros (x ∷ rest)))) 1) ≡ true)
+  rebuilt-wrong =
+      let bytes = joined (tornBlocks size zeros (x ∷ rest)) in
+      let here = place 1 (lit< tt) in (
+        rebuild-others bench 0 1 bytes here in-memory true (good-others bench 0 1 bytes (λ m h ne. ap (good bench 0 m) (block-there m h) ∙ all-good m h)),
+        was-zero,
+        rebuilt-data bench 0 1 bytes here in-memory ∙ made-of-others,
+        rebuilt-good bench 0 1 bytes here in-memory (lit< tt),
+      )
+
   pub unseen : guard (x ∷ rest) ≡ 0 → quickNumbers (map storedGuard (tornBlocks size zeros (x ∷ rest))) ≡ 1 ∷ 0 ∷ 0 ∷ 0 ∷ []
   unseen e = quick-fits (map storedGuard (tornBlocks size zeros (x ∷ rest))) (sound-quick 3 (lit≤ tt) (lit≤ tt)) (guards-there ∙ e)
 
@@ -157,3 +199,10 @@ torn-seen =
       seen 512 509 0x01 (0x8B ∷ 0xB6 ∷ []) refl refl some-end bytes (λ e. let z : _≡_ {A = ℕ} 0x8BB7 0 = sym guard-seen ∙ e in omega arith)
           ∙ ap (λ (g : ℕ). 1 ∷ 0 ∷ 1 ∷ g ∷ []) guard-seen,
     )
+
+-- the first of them rebuilt: the block on member 1 was zeros, and comes back as another, which is good there
+pub torn-rebuilt : (rebuildRefusal bench 0 1 (joined (tornBlocks 512 509 (0x01 ∷ 0x8B ∷ 0xB7 ∷ []))) ≡ 0)
+    × (dataOf (blockOf (joined (tornBlocks 512 509 (0x01 ∷ 0x8B ∷ 0xB7 ∷ []))) 1) ≡ replicate 512 0)
+    × (dataOf (blockOf (rebuilt bench 0 1 (joined (tornBlocks 512 509 (0x01 ∷ 0x8B ∷ 0xB7 ∷ [])))) 1) ≡ zerosThen 509 (0x01 ∷ 0x8B ∷ 0xB7 ∷ []))
+    × (good bench 0 1 (blockOf (rebuilt bench 0 1 (joined (tornBlocks 512 509 (0x01 ∷ 0x8B ∷ 0xB7 ∷ [])))) 1) ≡ true)
+torn-rebuilt = rebuilt-wrong 512 509 0x01 (0x8B ∷ 0xB7 ∷ []) refl refl some-end (few-bytes 0x01 0x8B 0xB7 (lit< tt) (lit< tt) (lit< tt))
