@@ -1,5 +1,5 @@
-//! A second program for the proved library: a model, written from the standard and the rules and not from the
-//! proved code, and comparisons of the two on many inputs.
+//! A second program for the proved library: a model of its own, written from the standard and the rules,
+//! and comparisons of the two on many inputs.
 
 mod compare;
 mod figures;
