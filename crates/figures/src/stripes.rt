@@ -8,6 +8,7 @@ use stripe::Compared;
 use stripe::Reading;
 use stripe::Scrubbed;
 use stripe::Verdict;
+use tag::pair;
 
 // Three members, one stripe, volume 7.
 fn three() -> Array {
@@ -132,10 +133,6 @@ fn stored(bytes: &[u8], at: u16) -> u16 {
 
 fn byte_at(bytes: &[u8], at: usize) -> u8 {
     if at < bytes.len() { bytes[at] } else { 0 }
-}
-
-fn pair(high: u8, low: u8) -> u16 {
-    high as u16 * 256 + low as u16
 }
 
 // The quick scrub of the three stored guards.

@@ -1,5 +1,6 @@
 // The nine bytes at the head of an image: their length, a version, and the array's numbers.
 use layout::Array;
+use tag::pair;
 ghost use mathlib.Core.Path.{_≡_};
 ghost use Prim.Native.Nat.{_+_, _*_};
 ghost use lib.ListN.{take};
@@ -11,13 +12,6 @@ const HEADER: usize = 9;
 const FOLLOWING: u16 = 7;
 
 const VERSION: u8 = 1;
-
-// Two bytes as a number, the highest first.
-fn pair(high: u8, low: u8) -> u16
-    ensures { λ r. ⌜ r ≡ high * 256 + low ⌝ }
-{
-    high as u16 * 256 + low as u16
-}
 
 // The array's numbers in a header.
 pub fn array_in(header: [u8; 9]) -> Array

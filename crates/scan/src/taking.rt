@@ -1,6 +1,6 @@
 // A piece of a member's block is taken in.
 ghost use mathlib.Core.Path.{_≡_};
-ghost use Prim.Native.Nat.{_+_, _-_, _*_, _≤_, _<_, min};
+ghost use Prim.Native.Nat.{_+_, _-_, _*_, _≤_, _<_};
 ghost use lib.ListN.{length, getD};
 ghost use lib.Seq.{sets};
 ghost use Rattle.stripe.specs.Formats.{t10};
@@ -13,6 +13,7 @@ use crate::positions::tag_place;
 use tag::BLOCK;
 use tag::DATA;
 use tag::TAG;
+use xor::least;
 
 // The refusal number of a piece: an unfit state, no such member, a work buffer of another length, more than the member lacks.
 fn piece_refusal(state: Scan, member: usize, count: usize, length: usize) -> u8
@@ -34,13 +35,6 @@ fn piece_refusal(state: Scan, member: usize, count: usize, length: usize) -> u8
         return 7;
     }
     0
-}
-
-// The smaller of two numbers.
-fn least(a: usize, b: usize) -> usize
-    ensures { λ r. ⌜ r ≡ min a b ⌝ }
-{
-    if a < b { a } else { b }
 }
 
 // Stores tag bytes of a member, the first of which stands at `position` of its block, each at its place of the member's tag.

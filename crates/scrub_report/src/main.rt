@@ -2,20 +2,15 @@
 use libc::STDIN_FILENO;
 use libc::STDOUT_FILENO;
 use report::Report;
+use xor::least;
 ghost use mathlib.Core.Path.{_≡_};
-ghost use Prim.Native.Nat.{_≤_, min};
+ghost use Prim.Native.Nat.{_≤_};
 ghost use lib.ListN.{length};
 
 // A report's state, and how many bytes of the output buffer wait to be written.
 struct Passed {
     state: Report,
     waiting: usize,
-}
-
-fn least(a: usize, b: usize) -> usize
-    ensures { λ r. ⌜ r ≡ min a b ⌝ }
-{
-    if a < b { a } else { b }
 }
 
 // Writes what waits where less than a line's room is left, and answers how much then waits.

@@ -34,7 +34,7 @@ pub enum Checked {
 }
 
 // Two bytes as a number, and two halves: the highest first.
-fn pair(high: u8, low: u8) -> u16
+pub fn pair(high: u8, low: u8) -> u16
     ensures { λ r. ⌜ r ≡ high * 256 + low ⌝ }
 {
     high as u16 * 256 + low as u16

@@ -15,7 +15,8 @@ pub fn xor_into(dst: &mut [u8], src: &[u8])
     }
 }
 
-fn least(a: usize, b: usize) -> usize
+// The lesser of two lengths: as far as both reach.
+pub fn least(a: usize, b: usize) -> usize
     ensures { λ r. ⌜ r ≡ min a b ⌝ }
 {
     if a < b { a } else { b }
