@@ -1,0 +1,73 @@
+//! The machine in general words, and the compilers.
+
+use crate::peers::isal;
+use std::fs;
+use std::thread;
+
+pub fn print() {
+    let cores = thread::available_parallelism().map_or(1, |count| count.get());
+    let kind = if cpu().contains(" hypervisor") {
+        "virtual machine"
+    } else {
+        "machine"
+    };
+    println!(
+        "A {kind} with {cores} {} cores ({}), {}, {} GiB of memory.",
+        std::env::consts::ARCH,
+        instructions(),
+        caches(),
+        memory()
+    );
+    println!(
+        "The peers: {}, opt-level 3, for any {} processor; ISA-L {}.",
+        env!("BENCH_RUSTC"),
+        std::env::consts::ARCH,
+        isal::VERSION.unwrap_or("is not installed and skipped (Debian: libisal-dev)")
+    );
+}
+
+fn cpu() -> String {
+    fs::read_to_string("/proc/cpuinfo").unwrap_or_default()
+}
+
+/// The vector instructions that matter to ISA-L and memcpy.
+fn instructions() -> String {
+    let cpu = cpu();
+    let names = [
+        (" pclmulqdq", "PCLMULQDQ"),
+        (" avx2", "AVX2"),
+        (" avx512f", "AVX-512"),
+        (" vpclmulqdq", "VPCLMULQDQ"),
+    ];
+    let present = names.iter().filter(|(flag, _)| cpu.contains(flag));
+    let present: Vec<&str> = present.map(|(_, name)| *name).collect();
+    present.join(", ")
+}
+
+fn caches() -> String {
+    let mut caches = Vec::new();
+    for index in 0..8 {
+        let read = |name| {
+            let path = format!("/sys/devices/system/cpu/cpu0/cache/index{index}/{name}");
+            fs::read_to_string(path).map(|text| text.trim().to_string())
+        };
+        if let (Ok(level), Ok(kind), Ok(size)) = (read("level"), read("type"), read("size"))
+            && kind != "Instruction"
+        {
+            let kibibytes: usize = size.trim_end_matches('K').parse().unwrap_or(0);
+            caches.push(if kibibytes < 1024 {
+                format!("L{level} {kibibytes} KiB")
+            } else {
+                format!("L{level} {} MiB", kibibytes / 1024)
+            });
+        }
+    }
+    caches.join(", ")
+}
+
+fn memory() -> u64 {
+    let text = fs::read_to_string("/proc/meminfo").unwrap_or_default();
+    let total = text.split_whitespace().nth(1);
+    let kibibytes: u64 = total.and_then(|total| total.parse().ok()).unwrap_or(0);
+    kibibytes.div_ceil(1 << 20)
+}

@@ -1,0 +1,197 @@
+//! The same jobs in ordinary Rust, over two ways to make guards: a loop over bits, and ISA-L.
+
+use crate::stripes::{BLOCK, DATA, MEMBERS, VOLUME, Verdict, blocks};
+use std::array;
+
+pub trait Peer {
+    /// The register of the guard after more bytes.
+    fn go_on(register: u16, bytes: &[u8]) -> u16;
+
+    /// What the data of all members but `skip` combine to.
+    fn combined(bytes: &[u8], skip: usize) -> [u8; DATA];
+}
+
+/// What anyone would write. The compiler may make of it what it likes.
+pub struct Ordinary;
+
+impl Peer for Ordinary {
+    #[inline(never)]
+    fn go_on(register: u16, bytes: &[u8]) -> u16 {
+        let mut register = register;
+        for byte in bytes {
+            register ^= u16::from(*byte) << 8;
+            for _ in 0..8 {
+                register = if register & 0x8000 != 0 {
+                    register << 1 ^ 0x8BB7
+                } else {
+                    register << 1
+                };
+            }
+        }
+        register
+    }
+
+    #[inline(never)]
+    fn combined(bytes: &[u8], skip: usize) -> [u8; DATA] {
+        let mut sum = [0; DATA];
+        for (member, block) in blocks(bytes).enumerate() {
+            if member != skip {
+                xor_into(&mut sum, &block[..DATA]);
+            }
+        }
+        sum
+    }
+}
+
+/// The guards of ISA-L. Its own exclusive-or wants blocks at multiples of 16 bytes; here it is a loop that
+/// keeps sixty-four bytes in registers while the members go by.
+pub struct Isal;
+
+const ROW: usize = 64;
+
+impl Peer for Isal {
+    #[inline(always)]
+    fn go_on(register: u16, bytes: &[u8]) -> u16 {
+        isal::guard(register, bytes)
+    }
+
+    fn combined(bytes: &[u8], skip: usize) -> [u8; DATA] {
+        let mut sum = [0; DATA];
+        for (place, part) in sum.chunks_exact_mut(ROW).enumerate() {
+            part.copy_from_slice(&row(bytes, skip, place * ROW));
+        }
+        sum
+    }
+}
+
+#[inline(never)]
+fn row(bytes: &[u8], skip: usize, at: usize) -> [u8; ROW] {
+    let mut row = [0; ROW];
+    for (member, block) in blocks(bytes).enumerate() {
+        if member != skip {
+            xor_into(&mut row, &block[at..at + ROW]);
+        }
+    }
+    row
+}
+
+pub mod isal {
+    /// None where ISA-L is not installed; then nothing here is called.
+    pub const VERSION: Option<&str> = option_env!("BENCH_ISAL");
+
+    #[cfg(isal)]
+    pub fn guard(register: u16, bytes: &[u8]) -> u16 {
+        unsafe extern "C" {
+            fn crc16_t10dif(register: u16, bytes: *const u8, length: u64) -> u16;
+        }
+        // SAFETY: the pointer comes with the length of its buffer, which is only read.
+        unsafe { crc16_t10dif(register, bytes.as_ptr(), bytes.len() as u64) }
+    }
+
+    #[cfg(not(isal))]
+    pub fn guard(_: u16, _: &[u8]) -> u16 {
+        panic!("ISA-L is not installed")
+    }
+}
+
+fn xor_into(sum: &mut [u8], bytes: &[u8]) {
+    for (place, byte) in sum.iter_mut().zip(bytes) {
+        *place ^= byte;
+    }
+}
+
+pub fn guard<P: Peer>(bytes: &[u8]) -> u16 {
+    P::go_on(0, bytes)
+}
+
+/// The tag due on a member of a stripe where the data have this guard.
+fn due(stripe: u64, member: usize, guard: u16) -> [u8; 8] {
+    let parity = (stripe % MEMBERS as u64) as usize;
+    let lowest = stripe as u32 * (MEMBERS as u32 - 1);
+    let (kind, reference) = if member == parity {
+        (0x80, lowest)
+    } else {
+        (0x00, lowest + member as u32 - u32::from(member > parity))
+    };
+    let [g0, g1] = guard.to_be_bytes();
+    let [r0, r1, r2, r3] = reference.to_be_bytes();
+    [g0, g1, kind, VOLUME, r0, r1, r2, r3]
+}
+
+fn is_good<P: Peer>(stripe: u64, member: usize, block: &[u8]) -> bool {
+    block[DATA..] == due(stripe, member, guard::<P>(&block[..DATA]))
+}
+
+/// What is said of a stripe: which members are good, and what its data combine to.
+fn verdict(good: [bool; MEMBERS], sum: &[u8; DATA]) -> Verdict {
+    if let Some(member) = good.iter().position(|good| !good) {
+        let count = good.iter().filter(|good| !**good).count();
+        return Verdict::Bad { member, count };
+    }
+    if *sum == [0; DATA] {
+        return Verdict::Clean;
+    }
+    let place = sum.iter().position(|byte| *byte != 0);
+    let place = place.expect("a byte is not zero");
+    Verdict::Torn { place }
+}
+
+pub fn scrub<P: Peer>(stripe: u64, bytes: &[u8]) -> Verdict {
+    let good =
+        array::from_fn(|member| is_good::<P>(stripe, member, &bytes[member * BLOCK..][..BLOCK]));
+    verdict(good, &P::combined(bytes, MEMBERS))
+}
+
+/// Whether the member was rebuilt: all others must be good.
+pub fn rebuild<P: Peer>(stripe: u64, member: usize, bytes: &mut [u8]) -> bool {
+    let good = |(other, block)| other == member || is_good::<P>(stripe, other, block);
+    if !blocks(bytes).enumerate().all(good) {
+        return false;
+    }
+    let data = P::combined(bytes, member);
+    let tag = due(stripe, member, guard::<P>(&data));
+    let block = &mut bytes[member * BLOCK..][..BLOCK];
+    block[..DATA].copy_from_slice(&data);
+    block[DATA..].copy_from_slice(&tag);
+    true
+}
+
+/// What a scan holds between its pieces, beside the work buffer.
+struct Scan {
+    at: [usize; MEMBERS],
+    register: [u16; MEMBERS],
+    tag: [[u8; 8]; MEMBERS],
+}
+
+impl Scan {
+    fn piece<P: Peer>(&mut self, member: usize, bytes: &[u8], work: &mut [u8; DATA]) {
+        let at = self.at[member];
+        let (data, tag) = bytes.split_at(bytes.len().min(DATA.saturating_sub(at)));
+        self.register[member] = P::go_on(self.register[member], data);
+        xor_into(&mut work[at.min(DATA)..], data);
+        let from = (at + data.len()).saturating_sub(DATA);
+        self.tag[member][from..from + tag.len()].copy_from_slice(tag);
+        self.at[member] = at + bytes.len();
+    }
+}
+
+/// A scan of a stripe, one piece for each of the blocks.
+pub fn scan<'a, P: Peer>(
+    stripe: u64,
+    blocks: impl Iterator<Item = &'a [u8]>,
+    work: &mut [u8; DATA],
+) -> Verdict {
+    work.fill(0);
+    let mut scan = Scan {
+        at: [0; MEMBERS],
+        register: [0; MEMBERS],
+        tag: [[0; 8]; MEMBERS],
+    };
+    for (member, block) in blocks.enumerate() {
+        scan.piece::<P>(member, block, work);
+    }
+    assert_eq!(scan.at, [BLOCK; MEMBERS], "every member is whole");
+    let good =
+        array::from_fn(|member| scan.tag[member] == due(stripe, member, scan.register[member]));
+    verdict(good, work)
+}

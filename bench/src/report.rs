@@ -1,0 +1,192 @@
+//! The report program on an image in memory that comes through a pipe, beside its peers and `cat`.
+
+use crate::library;
+use crate::peers::{self, Isal, Ordinary};
+use crate::rows::{CONTESTANTS, IRUMBOLAI, ISAL, MEMCPY, ORDINARY, Room, copy_stripe, guards};
+use crate::stripes::{MEMBERS, Random, STRIPE, VOLUME, Verdict, blocks, damage, seal};
+use crate::timing::{is_here, keep, nanoseconds};
+use std::env;
+use std::hint::black_box;
+use std::io::{self, BufReader, BufWriter, Read, Write};
+use std::path::Path;
+use std::process::{Command, Stdio};
+use std::thread;
+use std::time::Instant;
+
+/// How many turns each program has.
+pub const ROUNDS: usize = 15;
+
+/// The stripes of the image: 64 MiB.
+const IMAGE: usize = (64 << 20) / STRIPE;
+
+/// The stripes of the image, some of them damaged, on which the programs are compared.
+const COMPARED: usize = 300;
+
+/// The word that makes this program a peer's report program.
+pub const PEER: &str = "report";
+
+const HEADER: usize = 9;
+
+/// The buffers of the peers are as long as those of the proved program.
+const BUFFER: usize = 65536;
+
+/// The best times, in nanoseconds for the whole image.
+pub struct Times {
+    pub bytes: usize,
+    pub programs: [Option<f64>; CONTESTANTS],
+    pub cat: Option<f64>,
+    pub guards: Option<f64>,
+    pub scans: Option<f64>,
+}
+
+/// The report programs agree on an image with damaged stripes.
+pub fn compare(program: &Path) {
+    let mut random = Random::new();
+    let mut image = image(COMPARED, &mut random);
+    for (number, bytes) in image[HEADER..].chunks_exact_mut(STRIPE).enumerate() {
+        damage(number as u64, bytes, &mut random);
+    }
+    agree(program, &image);
+}
+
+pub fn measure(program: &Path) -> Times {
+    let image = image(IMAGE, &mut Random::new());
+    agree(program, &image);
+    let mut times = Times {
+        bytes: image.len(),
+        programs: [None; CONTESTANTS],
+        cat: None,
+        guards: None,
+        scans: None,
+    };
+    let mut room = Room::new();
+    for _ in 0..ROUNDS {
+        for who in [IRUMBOLAI, ORDINARY, ISAL] {
+            if is_here(who) {
+                let time = timed(|| run(&mut command(who, program), &image, Stdio::null()));
+                keep(&mut times.programs[who], time);
+            }
+        }
+        let cat = timed(|| run(&mut Command::new("cat"), &image, Stdio::null()));
+        keep(&mut times.cat, cat);
+        let stripes = || image[HEADER..].chunks_exact(STRIPE);
+        let memcpy = timed(|| {
+            for bytes in stripes() {
+                copy_stripe(bytes, &mut room);
+            }
+        });
+        keep(&mut times.programs[MEMCPY], memcpy);
+        let guards = timed(|| {
+            for bytes in stripes() {
+                black_box(guards(library::guard, bytes));
+            }
+        });
+        keep(&mut times.guards, guards);
+        let scans = timed(|| {
+            for (number, bytes) in stripes().enumerate() {
+                black_box(library::scan(number as u64, blocks(bytes), &mut room.work));
+            }
+        });
+        keep(&mut times.scans, scans);
+    }
+    times
+}
+
+fn timed<T>(work: impl FnOnce() -> T) -> f64 {
+    let start = Instant::now();
+    black_box(work());
+    nanoseconds(start.elapsed())
+}
+
+fn image(stripes: usize, random: &mut Random) -> Vec<u8> {
+    let mut image = vec![0x00, 0x07, 0x01, MEMBERS as u8, VOLUME];
+    image.extend((stripes as u32).to_be_bytes());
+    image.resize(HEADER + stripes * STRIPE, 0);
+    seal(&mut image[HEADER..], random);
+    image
+}
+
+fn command(who: usize, program: &Path) -> Command {
+    if who == IRUMBOLAI {
+        return Command::new(program);
+    }
+    let mut command = Command::new(env::current_exe().expect("this program has a path"));
+    command.args([PEER, if who == ISAL { "isal" } else { "ordinary" }]);
+    command
+}
+
+/// Runs a program on an image that a thread writes into its input, until it has ended. Gives what it wrote.
+fn run(command: &mut Command, image: &[u8], output: Stdio) -> Vec<u8> {
+    let mut child = command
+        .stdin(Stdio::piped())
+        .stdout(output)
+        .spawn()
+        .unwrap_or_else(|error| panic!("{command:?}: {error}"));
+    let mut pipe = child.stdin.take().expect("the input is a pipe");
+    thread::scope(|scope| {
+        scope.spawn(move || pipe.write_all(image).expect("the image is read"));
+        let output = child.wait_with_output().expect("the program is waited for");
+        assert!(output.status.success(), "{command:?}: {}", output.status);
+        output.stdout
+    })
+}
+
+/// The programs write the report that the library's scrub gives.
+fn agree(program: &Path, image: &[u8]) {
+    let mut due = Vec::new();
+    report(image, &mut due, library::scrub).expect("memory takes the report");
+    for who in [IRUMBOLAI, ORDINARY, ISAL] {
+        if is_here(who) {
+            let mut command = command(who, program);
+            let found = run(&mut command, image, Stdio::piped());
+            assert!(found == due, "{command:?}: another report is due");
+        }
+    }
+}
+
+/// The report program of a peer. Unlike the proved one it takes whole images of sixteen members alone, and refuses none.
+pub fn peer(name: &str) -> io::Result<()> {
+    let scrub = match name {
+        "isal" => peers::scrub::<Isal>,
+        _ => peers::scrub::<Ordinary>,
+    };
+    let input = BufReader::with_capacity(BUFFER, io::stdin());
+    let output = BufWriter::with_capacity(BUFFER, io::stdout());
+    report(input, output, scrub)
+}
+
+fn report(
+    mut input: impl Read,
+    mut output: impl Write,
+    scrub: fn(u64, &[u8]) -> Verdict,
+) -> io::Result<()> {
+    let mut header = [0; HEADER];
+    input.read_exact(&mut header)?;
+    let [_, _, _, members, _, s0, s1, s2, s3] = header;
+    let stripes = u32::from_be_bytes([s0, s1, s2, s3]);
+    writeln!(output, "SCRUB v1 members {members} stripes {stripes}")?;
+    let (mut clean, mut bad, mut torn) = (0, 0, 0);
+    let mut bytes = [0; STRIPE];
+    for stripe in 0..stripes {
+        input.read_exact(&mut bytes)?;
+        match scrub(u64::from(stripe), &bytes) {
+            Verdict::Clean => {
+                clean += 1;
+                writeln!(output, "{stripe} CLEAN")?;
+            }
+            Verdict::Bad { member, count } => {
+                bad += 1;
+                writeln!(output, "{stripe} BAD {member} {count}")?;
+            }
+            Verdict::Torn { place } => {
+                torn += 1;
+                writeln!(output, "{stripe} TORN {place}")?;
+            }
+        }
+    }
+    writeln!(
+        output,
+        "TOTAL {stripes} clean {clean} bad {bad} torn {torn}"
+    )?;
+    output.flush()
+}

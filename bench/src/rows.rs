@@ -1,0 +1,165 @@
+//! What is measured: each row is one job, done by the library and by its peers. A new row is a new entry of ROWS.
+
+use crate::library;
+use crate::peers::{self, Isal, Ordinary};
+use crate::stripes::{BLOCK, DATA, MEMBERS, STRIPE, blocks};
+use std::hint::black_box;
+
+/// Where a job writes beside the stripe.
+pub struct Room {
+    pub copy: [u8; STRIPE],
+    pub work: [u8; DATA],
+}
+
+impl Room {
+    pub fn new() -> Self {
+        Room {
+            copy: [0; STRIPE],
+            work: [0; DATA],
+        }
+    }
+}
+
+/// Does a job on the stripe of a number, and gives what it finds as one number.
+pub type Job = fn(u64, &mut [u8], &mut Room) -> u64;
+
+/// Who does a job, in the order of the columns.
+pub const IRUMBOLAI: usize = 0;
+pub const ORDINARY: usize = 1;
+pub const ISAL: usize = 2;
+pub const MEMCPY: usize = 3;
+pub const CONTESTANTS: usize = 4;
+
+/// Where the bytes of a row lie before its job.
+#[derive(Clone, Copy, Debug, PartialEq)]
+pub enum Source {
+    Cache,
+    Memory,
+}
+
+pub struct Row {
+    pub name: &'static str,
+    /// What a time is told of, how many of them a job does, and the bytes of one.
+    pub unit: &'static str,
+    pub units: usize,
+    pub bytes: usize,
+    pub sources: &'static [Source],
+    pub jobs: [Job; CONTESTANTS],
+}
+
+/// The member that is rebuilt. It holds the parity of one stripe in sixteen.
+const LOST: usize = 5;
+
+pub const ROWS: &[Row] = &[
+    Row {
+        name: "guard of one block alone",
+        unit: "block",
+        units: MEMBERS,
+        bytes: DATA,
+        sources: &[Source::Cache],
+        jobs: [
+            |_, bytes, _| alone(library::guard, bytes),
+            |_, bytes, _| alone(peers::guard::<Ordinary>, bytes),
+            |_, bytes, _| alone(peers::guard::<Isal>, bytes),
+            |_, bytes, room| copy_one(bytes, room),
+        ],
+    },
+    Row {
+        name: "guard of many blocks",
+        unit: "block",
+        units: MEMBERS,
+        bytes: DATA,
+        sources: &[Source::Cache, Source::Memory],
+        jobs: [
+            |_, bytes, _| guards(library::guard, bytes),
+            |_, bytes, _| guards(peers::guard::<Ordinary>, bytes),
+            |_, bytes, _| guards(peers::guard::<Isal>, bytes),
+            |_, bytes, room| copy_blocks(bytes, room),
+        ],
+    },
+    Row {
+        name: "full scrub",
+        unit: "stripe",
+        units: 1,
+        bytes: STRIPE,
+        sources: &[Source::Cache, Source::Memory],
+        jobs: [
+            |stripe, bytes, _| library::scrub(stripe, bytes).number(),
+            |stripe, bytes, _| peers::scrub::<Ordinary>(stripe, bytes).number(),
+            |stripe, bytes, _| peers::scrub::<Isal>(stripe, bytes).number(),
+            |_, bytes, room| copy_stripe(bytes, room),
+        ],
+    },
+    Row {
+        name: "rebuild of one member",
+        unit: "stripe",
+        units: 1,
+        bytes: STRIPE,
+        sources: &[Source::Cache, Source::Memory],
+        jobs: [
+            |stripe, bytes, _| u64::from(library::rebuild(stripe, LOST, bytes) == 0),
+            |stripe, bytes, _| u64::from(peers::rebuild::<Ordinary>(stripe, LOST, bytes)),
+            |stripe, bytes, _| u64::from(peers::rebuild::<Isal>(stripe, LOST, bytes)),
+            |_, bytes, room| copy_stripe(bytes, room),
+        ],
+    },
+    Row {
+        name: "scan in 520-byte pieces",
+        unit: "stripe",
+        units: 1,
+        bytes: STRIPE,
+        sources: &[Source::Cache, Source::Memory],
+        jobs: [
+            |stripe, bytes, room| library::scan(stripe, blocks(bytes), &mut room.work).number(),
+            |stripe, bytes, room| {
+                peers::scan::<Ordinary>(stripe, blocks(bytes), &mut room.work).number()
+            },
+            |stripe, bytes, room| {
+                peers::scan::<Isal>(stripe, blocks(bytes), &mut room.work).number()
+            },
+            |_, bytes, room| copy_stripe(bytes, room),
+        ],
+    },
+];
+
+/// Guards of the first block, each begun when the one before is known: where it starts depends on it.
+fn alone(guard: impl Fn(&[u8]) -> u16, bytes: &[u8]) -> u64 {
+    let nothing = black_box(0);
+    let mut last = 0;
+    for _ in 0..MEMBERS {
+        let at = usize::from(last) & nothing;
+        last = guard(&bytes[at..at + DATA]);
+    }
+    u64::from(last)
+}
+
+/// The guards of all blocks, none of which waits for another.
+pub fn guards(guard: impl Fn(&[u8]) -> u16, bytes: &[u8]) -> u64 {
+    blocks(bytes).fold(0, |all, block| {
+        all.rotate_left(5) ^ u64::from(guard(&block[..DATA]))
+    })
+}
+
+fn copy(from: &[u8], to: &mut [u8]) {
+    to.copy_from_slice(black_box(from));
+    black_box(to);
+}
+
+fn copy_one(bytes: &[u8], room: &mut Room) -> u64 {
+    for _ in 0..MEMBERS {
+        copy(&bytes[..DATA], &mut room.copy[..DATA]);
+    }
+    0
+}
+
+fn copy_blocks(bytes: &[u8], room: &mut Room) -> u64 {
+    for (from, to) in blocks(bytes).zip(room.copy.chunks_exact_mut(BLOCK)) {
+        copy(&from[..DATA], &mut to[..DATA]);
+    }
+    0
+}
+
+pub fn copy_stripe(bytes: &[u8], room: &mut Room) -> u64 {
+    copy(bytes, &mut room.copy);
+    0
+}

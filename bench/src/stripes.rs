@@ -1,0 +1,96 @@
+//! The array that is measured, and stripes of random data.
+
+use crate::library;
+
+pub const DATA: usize = 512;
+pub const BLOCK: usize = 520;
+pub const MEMBERS: usize = 16;
+pub const STRIPE: usize = MEMBERS * BLOCK;
+pub const STRIPES: u64 = 268_435_456;
+pub const VOLUME: u8 = 7;
+
+#[derive(Clone, Copy, Debug, PartialEq)]
+pub enum Verdict {
+    Clean,
+    Bad { member: usize, count: usize },
+    Torn { place: usize },
+}
+
+impl Verdict {
+    /// The verdict as one number.
+    pub fn number(self) -> u64 {
+        match self {
+            Verdict::Clean => 0,
+            Verdict::Bad { member, count } => 1 << 32 | (member as u64) << 16 | count as u64,
+            Verdict::Torn { place } => 2 << 32 | place as u64,
+        }
+    }
+}
+
+/// The blocks of a stripe, member by member.
+pub fn blocks(bytes: &[u8]) -> impl Iterator<Item = &[u8]> {
+    bytes.chunks_exact(BLOCK)
+}
+
+/// Random numbers that are the same in every run: SplitMix64.
+pub struct Random {
+    state: u64,
+}
+
+impl Random {
+    pub fn new() -> Self {
+        Random { state: 20_260_101 }
+    }
+
+    pub fn next(&mut self) -> u64 {
+        self.state = self.state.wrapping_add(0x9E37_79B9_7F4A_7C15);
+        let mut mixed = self.state;
+        mixed = (mixed ^ (mixed >> 30)).wrapping_mul(0xBF58_476D_1CE4_E5B9);
+        mixed = (mixed ^ (mixed >> 27)).wrapping_mul(0x94D0_49BB_1331_11EB);
+        mixed ^ (mixed >> 31)
+    }
+
+    /// A number below `bound`, which is small beside 2^64.
+    pub fn below(&mut self, bound: usize) -> usize {
+        (self.next() % bound as u64) as usize
+    }
+
+    pub fn fill(&mut self, bytes: &mut [u8]) {
+        for chunk in bytes.chunks_mut(8) {
+            chunk.copy_from_slice(&self.next().to_le_bytes()[..chunk.len()]);
+        }
+    }
+}
+
+/// Fills a buffer with whole stripes of random data, numbered from 0.
+pub fn seal(bytes: &mut [u8], random: &mut Random) {
+    let mut data = [0; (MEMBERS - 1) * DATA];
+    for (stripe, bytes) in bytes.chunks_exact_mut(STRIPE).enumerate() {
+        random.fill(&mut data);
+        assert_eq!(library::seal(stripe as u64, &data, bytes), 0);
+    }
+}
+
+/// Damages a stripe, or not: a bit of it, two blocks changed about, a block written anew without its parity, or all of it.
+pub fn damage(stripe: u64, bytes: &mut [u8], random: &mut Random) {
+    let member = random.below(MEMBERS);
+    match random.below(5) {
+        0 => {}
+        1 => bytes[random.below(STRIPE)] ^= 1 << random.below(8),
+        2 => {
+            let other = random.below(MEMBERS);
+            for at in 0..BLOCK {
+                bytes.swap(member * BLOCK + at, other * BLOCK + at);
+            }
+        }
+        3 => {
+            bytes[member * BLOCK + random.below(DATA)] ^= 1 << random.below(8);
+            let data = member * BLOCK..member * BLOCK + DATA;
+            let guard = library::guard(&bytes[data.clone()]);
+            bytes[data.end..data.end + 2].copy_from_slice(&guard.to_be_bytes());
+            let torn = library::scrub(stripe, bytes);
+            assert!(matches!(torn, Verdict::Torn { .. }), "{torn:?}");
+        }
+        _ => random.fill(bytes),
+    }
+}

@@ -1,0 +1,128 @@
+//! The library and its peers take turns, and the best time of each counts.
+
+use crate::peers::isal;
+use crate::rows::{CONTESTANTS, IRUMBOLAI, ISAL, MEMCPY, Room, Row, Source};
+use crate::stripes::{MEMBERS, Random, STRIPE, damage, seal};
+use std::hint::black_box;
+use std::time::{Duration, Instant};
+
+/// How many turns each contestant has.
+pub const ROUNDS: usize = 200;
+
+/// On how many stripes, most of them damaged, the answers are compared.
+const CASES: usize = 300;
+
+/// A turn in the cache does one stripe so many times over.
+const REPEATS: usize = 64;
+
+/// A turn in memory walks over so many stripes: about 1 MiB.
+const SEGMENT: usize = 126;
+
+/// So many segments lie in memory. Each turn takes the next, so that a segment comes again when all others went by.
+const SEGMENTS: usize = 256;
+
+/// Stripes that lie on a boundary of 64 bytes.
+struct Stripes {
+    bytes: Vec<u8>,
+    from: usize,
+}
+
+impl Stripes {
+    fn new(count: usize, random: &mut Random) -> Self {
+        let mut bytes = vec![0; count * STRIPE + 64];
+        let from = bytes.as_ptr().align_offset(64);
+        seal(&mut bytes[from..from + count * STRIPE], random);
+        Stripes { bytes, from }
+    }
+
+    fn stripe(&mut self, number: usize) -> &mut [u8] {
+        &mut self.bytes[self.from + number * STRIPE..][..STRIPE]
+    }
+}
+
+/// The stripes that all rows are measured on.
+pub struct Ground {
+    one: Stripes,
+    many: Stripes,
+    next: usize,
+}
+
+impl Ground {
+    pub fn new() -> Self {
+        let mut random = Random::new();
+        Ground {
+            one: Stripes::new(1, &mut random),
+            many: Stripes::new(SEGMENT * SEGMENTS, &mut random),
+            next: 0,
+        }
+    }
+
+    pub fn mebibytes() -> f64 {
+        ((SEGMENT * SEGMENTS * STRIPE) as f64 / (1 << 20) as f64).round()
+    }
+
+    /// The best time of each contestant for one unit, in nanoseconds; none of one that is not here.
+    pub fn best(&mut self, row: &Row, source: Source) -> [Option<f64>; CONTESTANTS] {
+        let mut best = [None; CONTESTANTS];
+        let mut room = Room::new();
+        for _ in 0..ROUNDS {
+            for (who, job) in row.jobs.iter().enumerate().filter(|(who, _)| is_here(*who)) {
+                let (from, first, stripes, repeats) = match source {
+                    Source::Cache => (&mut self.one, 0, 1, REPEATS),
+                    Source::Memory => {
+                        self.next = (self.next + 1) % SEGMENTS;
+                        (&mut self.many, self.next * SEGMENT, SEGMENT, 1)
+                    }
+                };
+                let start = Instant::now();
+                for _ in 0..repeats {
+                    for number in first..first + stripes {
+                        let bytes = black_box(from.stripe(number));
+                        black_box(job(number as u64, bytes, &mut room));
+                    }
+                }
+                let units = repeats * stripes * row.units;
+                keep(&mut best[who], nanoseconds(start.elapsed()) / units as f64);
+            }
+        }
+        best
+    }
+}
+
+pub fn is_here(who: usize) -> bool {
+    who != ISAL || isal::VERSION.is_some()
+}
+
+pub fn nanoseconds(time: Duration) -> f64 {
+    time.as_nanos() as f64
+}
+
+/// Keeps the lesser time.
+pub fn keep(best: &mut Option<f64>, time: f64) {
+    *best = Some(best.map_or(time, |best| best.min(time)));
+}
+
+/// The very jobs that are timed give the same answers and leave the same stripes, on good stripes and on damaged ones.
+pub fn compare(row: &Row) {
+    let mut random = Random::new();
+    let mut room = Room::new();
+    let mut stripes = Stripes::new(MEMBERS, &mut random);
+    for _ in 0..CASES {
+        let number = random.below(MEMBERS);
+        let mut before = stripes.stripe(number).to_vec();
+        damage(number as u64, &mut before, &mut random);
+        let mut due = before.clone();
+        let answer = row.jobs[IRUMBOLAI](number as u64, &mut due, &mut room);
+        for (who, job) in row.jobs.iter().enumerate().filter(|(who, _)| is_here(*who)) {
+            let mut after = before.clone();
+            let found = job(number as u64, &mut after, &mut room);
+            if who == MEMCPY {
+                let copied = room.copy[..row.bytes] == before[..row.bytes];
+                assert!(copied && after == before, "{}: memcpy", row.name);
+            } else {
+                assert_eq!(found, answer, "{}: contestant {who}", row.name);
+                assert!(after == due, "{}: contestant {who}", row.name);
+            }
+        }
+    }
+}
