@@ -1,19 +1,29 @@
 /*
- * Irumbolai: the stripe code of a RAID-5 recorder, proved. Link with libirumbolai.a.
+ * Irumbolai: the stripe code of a RAID-5 recorder, proved. Link with libirumbolai.a (Linux on x86-64).
+ * rig/rig.c is an example.
  *
- * Every call takes any bytes and any numbers, and returns; none keeps a pointer or allocates memory.
- * A buffer is a pointer, never NULL, and its length in bytes (of guards, their number); where it is 0
- * nothing is read.
- * A call writes only where a pointer is not const, and only what is said there.
+ * Calls. Every call takes any bytes and any numbers, and returns. None allocates memory, keeps a pointer, or holds
+ * anything from one call to the next, so calls on different buffers may run at once. Of the C library they use
+ * memcpy, memmove, memset and memcmp at most.
  *
- * An array is named by three numbers: `members` (drives, n), `stripes` (S) and `volume`.
- * Stripes, members and blocks are counted from 0. A stripe has one block on each member. One of these holds
- * the parity, the other d = n - 1 hold data, so the array's block numbers run from 0 to S x d - 1.
- * A block is 520 bytes: 512 of data, then its tag, in which every field has its highest byte first:
- * guard (2 bytes, of the data), application tag (00h for data or 80h for parity, then the volume), reference
- * tag (4 bytes: the block number; for parity, the lowest block number in its stripe). A block is good on a member
- * of a stripe if all three fields are those due there. A stripe in memory is its n blocks in the order of the
- * members, n x 520 bytes.
+ * Buffers. A buffer is lent for the call: a pointer, and after it the length in bytes (of guards, their number). The
+ * pointer is never NULL, also where the length is 0 and nothing is read. What is lent as const is only read. Each
+ * comment says what is written; nothing else changes. A buffer that is written must not overlap another one of the
+ * same call.
+ *
+ * Structs go in and come back by value, as any C compiler does it. The largest, of a scan, are 224 and 232 bytes, which
+ * each of its calls copies. Bytes between the fields hold nothing: compare structs by their fields, not with memcmp.
+ * In C++ the word struct is needed before a name that is a call's too.
+ *
+ * The array. It is named by three numbers: `members` (drives, n), `stripes` (S) and `volume`. Stripes, members and
+ * blocks are counted from 0. A stripe has one block on each member. One of these holds the parity, the other n - 1
+ * hold data, so the array's block numbers run from 0 to S x (n - 1) - 1.
+ *
+ * A block is 520 bytes: 512 of data, then its tag, in which every field has its highest byte first: guard (2 bytes,
+ * of the data), application tag (2 bytes: 00h for data or 80h for parity, then the volume), reference tag (4 bytes:
+ * the block number; for parity, the lowest block number in its stripe). A block is good on a member of a stripe if
+ * all three fields are those due there, else it is bad. A stripe in memory is its n blocks in the order of the members,
+ * n x 520 bytes.
  *
  * Refusals. A call that can be refused says so by number, 0 where it is done. It makes its tests in the order in
  * which its numbers are listed, and the first that fails decides. A refused call leaves every buffer as it was
@@ -39,10 +49,19 @@
 extern "C" {
 #endif
 
-/* The guard of a run of bytes: CRC-16/T10-DIF, generator 8BB7h, register started at 0, highest bit first. */
+/*
+ * The guard of a run of bytes: CRC-16/T10-DIF, generator 8BB7h, register started at 0, highest bit first.
+ *
+ *   lent      bytes: any number, read
+ *   refusals  none
+ */
 uint16_t irumbolai_guard(const uint8_t *bytes, size_t length);
 
-/* The stripe and the member on which a block lies. Refusals 1, 2, 3. */
+/*
+ * Where a block lies: its stripe, and the member of it.
+ *
+ *   refusals  1, 2, 3
+ */
 struct irumbolai_place {
     uint32_t refusal;
     uint32_t member;
@@ -51,8 +70,10 @@ struct irumbolai_place {
 struct irumbolai_place irumbolai_place(size_t members, uint64_t stripes, uint8_t volume, uint64_t block);
 
 /*
- * What lies on a member of a stripe: with `parity` 0 the block of that number; with `parity` 1 the parity,
- * and `block` is the lowest block number in the stripe. Refusals 1, 2, 3, 5.
+ * What lies on a member of a stripe: with `parity` 0 the block of that number; with `parity` 1 the parity, and
+ * `block` is the lowest block number in the stripe.
+ *
+ *   refusals  1, 2, 3, 5
  */
 struct irumbolai_owner {
     uint32_t refusal;
@@ -63,9 +84,12 @@ struct irumbolai_owner irumbolai_owner(size_t members, uint64_t stripes, uint8_t
                                        size_t member);
 
 /*
- * A block, 520 bytes, checked against the tag due on a member of a stripe. `field` is 0 if the block is good;
- * else it names the first wrong field (1 guard, 2 application tag, 3 reference tag), with the value found in the
- * block and the value expected. Refusals 1, 2, 3, 5, 6.
+ * Checks a block against the tag due on a member of a stripe. `field` is 0 if the block is good; else it names the
+ * first wrong field (1 guard, 2 application tag, 3 reference tag), with the value found in the block and the value
+ * expected.
+ *
+ *   lent      block: 520 bytes, read
+ *   refusals  1, 2, 3, 5, 6
  */
 struct irumbolai_check {
     uint32_t refusal;
@@ -77,17 +101,23 @@ struct irumbolai_check irumbolai_check(size_t members, uint64_t stripes, uint8_t
                                        size_t member, const uint8_t *block, size_t length);
 
 /*
- * Makes a stripe: its d x 512 bytes of data, in the order of the block numbers, each with its tag, and the parity.
- * Every byte of the stripe at `bytes` is written. Gives the refusal: 1, 2, 3, 6.
+ * Makes a stripe from its data: n - 1 times 512 bytes in the order of the block numbers. Each block gets its tag,
+ * and the parity is made. Gives the refusal.
+ *
+ *   lent      data: (n - 1) x 512 bytes, read; bytes: the stripe, n x 520 bytes, every byte written
+ *   refusals  1, 2, 3, 6
  */
 uint32_t irumbolai_seal(size_t members, uint64_t stripes, uint8_t volume, uint64_t stripe, const uint8_t *data,
                         size_t data_length, uint8_t *bytes, size_t length);
 
 /*
- * Reads a block out of its stripe at `bytes` into the 512 bytes at `out`. If the block is good, `rebuilt` is 0 and
- * its data come out, whatever the other members hold. If it is bad and all others are good, `rebuilt` is 1 and the
- * exclusive-or of the others' data comes out: the lost data, if parity was right before the loss; no check can tell
- * afterwards. Refusals 1, 2, 3, 6, 9.
+ * Reads the data of a block out of its stripe. If the block is good, `rebuilt` is 0 and its data come out, whatever the
+ * other members hold. If it is bad and all others are good, `rebuilt` is 1 and the exclusive-or of the others' data
+ * comes out: the lost data, if parity was right before the loss; no check can tell afterwards. If it is bad and
+ * another one is bad too, the refusal is 9.
+ *
+ *   lent      bytes: the stripe, n x 520 bytes, read; out: 512 bytes, every byte written
+ *   refusals  1, 2, 3, 6, 9
  */
 struct irumbolai_read {
     uint32_t refusal;
@@ -97,26 +127,35 @@ struct irumbolai_read irumbolai_read(size_t members, uint64_t stripes, uint8_t v
                                      const uint8_t *bytes, size_t length, uint8_t *out, size_t out_length);
 
 /*
- * Makes the block of a member from the others, which must all be good: the exclusive-or of their data, and the tag
- * due there. The member's 520 bytes in the stripe at `bytes` are written, whatever stood there, and no others.
- * Gives the refusal: 1, 2, 3, 5, 6, 9.
+ * Makes the block of a member from the others, whatever stood there: the exclusive-or of their data, and the tag due
+ * there. The others must all be good, else the refusal is 9. As for a read, the data are the lost ones if parity was
+ * right before the loss. Gives the refusal.
+ *
+ *   lent      bytes: the stripe, n x 520 bytes, read; of them the member's 520 bytes, written
+ *   refusals  1, 2, 3, 5, 6, 9
  */
 uint32_t irumbolai_rebuild(size_t members, uint64_t stripes, uint8_t volume, uint64_t stripe, size_t member,
                            uint8_t *bytes, size_t length);
 
 /*
- * Puts 512 bytes of new data into a block and brings the parity of its stripe along. Both blocks must be good. They
- * are written in the stripe at `bytes`; the other members are neither looked at nor changed.
- * Gives the refusal: 1, 2, 3, 6, 9.
+ * Puts new data into a block and brings the parity of its stripe along. Both blocks must be good, else the refusal is
+ * 9; the other members are not looked at. Gives the refusal.
+ *
+ *   lent      data: 512 bytes, read; bytes: the stripe, n x 520 bytes, of which the 520 of the block and the 520 of
+ *             the parity are read and written
+ *   refusals  1, 2, 3, 6, 9
  */
 uint32_t irumbolai_update(size_t members, uint64_t stripes, uint8_t volume, uint64_t block, const uint8_t *data,
                           size_t data_length, uint8_t *bytes, size_t length);
 
 /*
- * The full scrub of the stripe at `bytes`. `kind` is 0 if the stripe is clean: every block is good and the data of
- * all members combine to zero by exclusive-or. It is 1 if blocks are bad: `first` is the lowest such member, `count`
- * how many they are. It is 2 if all blocks are good and the stripe is torn: `first` is the first place, 0 to 511,
- * at which the data do not combine to zero. Refusals 1, 2, 3, 6.
+ * The full scrub of a stripe. `kind` is 0 if it is clean: every block is good and the data of all members combine to
+ * zero by exclusive-or. It is 1 if blocks are bad: `first` is the lowest such member, `count` how many they are. It
+ * is 2 if all blocks are good and the stripe is torn: `first` is the first place, 0 to 511, at which the data do not
+ * combine to zero, and `count` is 0.
+ *
+ *   lent      bytes: the stripe, n x 520 bytes, read
+ *   refusals  1, 2, 3, 6
  */
 struct irumbolai_verdict {
     uint32_t refusal;
@@ -131,7 +170,10 @@ struct irumbolai_verdict irumbolai_scrub(size_t members, uint64_t stripes, uint8
  * The quick scrub: the guards stored in the blocks of a stripe, one a member, without the data. `combination` is
  * their exclusive-or, and `differs` is 1 if it is not zero. Where no block is bad, the guards of a clean stripe do
  * not differ; those of a torn one do, if what its data combine to has all its one bits within sixteen successive
- * places. Refusal 1.
+ * places.
+ *
+ *   lent      guards: `count` numbers, each made from its two bytes in the tag, read
+ *   refusals  1
  */
 struct irumbolai_quick {
     uint32_t refusal;
@@ -145,7 +187,8 @@ struct irumbolai_quick irumbolai_quick_scrub(const uint16_t *guards, size_t coun
  * bytes between the calls, and hands the state of the last answer to the next call. Of each member the state holds
  * the position in its block (how many bytes it has given), the guard's register over its data so far, and its 8 tag
  * bytes, those of member m at `tag` + 8m. The work buffer holds what all data so far combine to.
- * Any state is taken: a fit one that no scan led to goes on from what it holds.
+ * Any state is taken: a fit one that no scan led to goes on from what it holds. A kept copy of state and work buffer
+ * is a scan that can be taken up again.
  */
 struct irumbolai_scan {
     size_t members;
@@ -162,23 +205,30 @@ struct irumbolai_taken {
 };
 
 /*
- * Begins a scan: the 512 bytes at `work` are set to zero, and the state has nothing taken. Where it is refused the
- * whole state is zero. Refusals 1, 2, 3, 6.
+ * Begins a scan: the state has nothing taken. Where it is refused the whole state is zero.
+ *
+ *   lent      work: 512 bytes, every byte set to zero
+ *   refusals  1, 2, 3, 6
  */
 struct irumbolai_taken irumbolai_start(size_t members, uint64_t stripes, uint8_t volume, uint64_t stripe, uint8_t *work,
                                        size_t work_length);
 
 /*
  * Takes in the next bytes of a member, any number that its block still lacks, none too. Data bytes go into the
- * member's register and are combined into `work` at their places in the block, tag bytes go into the state; the
- * member's position moves on, and nothing else changes. Refusals 4, 5, 6, 7.
+ * member's register, tag bytes into its tag bytes, and its position moves on; nothing else of the state changes.
+ *
+ *   lent      bytes: the piece, read; work: 512 bytes, the data bytes combined into those at their places in the block
+ *   refusals  4, 5, 6 (of the work buffer), 7
  */
 struct irumbolai_taken irumbolai_piece(struct irumbolai_scan state, size_t member, const uint8_t *bytes, size_t length,
                                        uint8_t *work, size_t work_length);
 
 /*
  * Ends a scan once every member has given its 520 bytes: the verdict that irumbolai_scrub gives of those blocks, by
- * the state and the work buffer alone. Nothing changes, and it may be asked again. Refusals 4, 6, 8.
+ * the state and the work buffer alone. It may be asked again.
+ *
+ *   lent      work: 512 bytes, read
+ *   refusals  4, 6, 8
  */
 struct irumbolai_verdict irumbolai_finish(struct irumbolai_scan state, const uint8_t *work, size_t work_length);
 

@@ -1,0 +1,242 @@
+/*
+ * The rig: looks at one stripe through libirumbolai.a and says what it finds. README.md has the format of its file,
+ * its lines and its exit codes.
+ *
+ *     rig MEMBERS STRIPES VOLUME STRIPE FILE
+ */
+#include <errno.h>
+#include <inttypes.h>
+#include <stdbool.h>
+#include <stdio.h>
+#include <stdlib.h>
+#include <string.h>
+
+#include "irumbolai.h"
+
+enum { DATA_BYTES = 512, BLOCK_BYTES = 520, MOST_MEMBERS = 16 };
+
+enum exit_code { CLEAN = 0, FOUND = 1, REFUSED = 2 };
+
+/* A stripe in memory, and the numbers that say which one it is. */
+struct stripe {
+    size_t members;
+    uint64_t stripes;
+    uint8_t volume;
+    uint64_t number;
+    uint8_t *bytes;
+    size_t length;
+};
+
+/* A refusal number in words. */
+static const char *in_words(uint32_t refusal)
+{
+    static const char *const words[] = {
+        "done",
+        "the members are not 3 to 16",
+        "the stripes are not 1 to 268435456",
+        "the array has no such stripe or block",
+        "the state of the scan is not fit",
+        "the array has no such member",
+        "a buffer is not as long as it has to be",
+        "the piece is longer than what its member lacks",
+        "a member has not given all its bytes",
+        "the blocks that are needed are not all good",
+    };
+
+    return refusal < sizeof words / sizeof words[0] ? words[refusal] : "no such refusal";
+}
+
+static void show_refusal(uint32_t refusal)
+{
+    printf("refused %" PRIu32 ", %s\n", refusal, in_words(refusal));
+}
+
+static void show_verdict(const char *name, struct irumbolai_verdict verdict)
+{
+    printf("%s: ", name);
+    if (verdict.refusal != 0)
+        show_refusal(verdict.refusal);
+    else if (verdict.kind == 0)
+        printf("clean\n");
+    else if (verdict.kind == 1)
+        printf("bad, lowest member %" PRIu32 ", %" PRIu32 " in all\n", verdict.first, verdict.count);
+    else
+        printf("torn, first at byte %" PRIu32 "\n", verdict.first);
+}
+
+static bool same(struct irumbolai_verdict a, struct irumbolai_verdict b)
+{
+    return a.refusal == b.refusal && a.kind == b.kind && a.first == b.first && a.count == b.count;
+}
+
+static const uint8_t *block_of(const struct stripe *stripe, size_t member)
+{
+    return stripe->bytes + member * BLOCK_BYTES;
+}
+
+/* The guard in the tag of a block, as it stands there: the highest byte comes first. */
+static uint16_t stored_guard(const uint8_t *block)
+{
+    return (uint16_t)(block[DATA_BYTES] << 8 | block[DATA_BYTES + 1]);
+}
+
+/* A member: its guard as stored and as its data ask for, and whether the block is the one that belongs there. */
+static void show_member(const struct stripe *stripe, size_t member)
+{
+    static const char *const fields[] = {"", "guard", "application tag", "reference tag"};
+    static const int digits[] = {0, 4, 4, 8};
+    const uint8_t *block = block_of(stripe, member);
+    struct irumbolai_check check = irumbolai_check(stripe->members, stripe->stripes, stripe->volume, stripe->number,
+                                                   member, block, BLOCK_BYTES);
+
+    printf("member %zu: guard stored %04X, due %04X: ", member, (unsigned)stored_guard(block),
+           (unsigned)irumbolai_guard(block, DATA_BYTES));
+    if (check.refusal != 0)
+        show_refusal(check.refusal);
+    else if (check.field == 0)
+        printf("good\n");
+    else
+        printf("bad, %s found %0*" PRIX32 ", expected %0*" PRIX32 "\n", fields[check.field], digits[check.field],
+               check.found, digits[check.field], check.expected);
+}
+
+/* The quick scrub: the stored guards alone. */
+static struct irumbolai_quick quick_scrub(const struct stripe *stripe)
+{
+    uint16_t guards[MOST_MEMBERS];
+
+    for (size_t member = 0; member < stripe->members; member++)
+        guards[member] = stored_guard(block_of(stripe, member));
+    return irumbolai_quick_scrub(guards, stripe->members);
+}
+
+static void show_quick(struct irumbolai_quick quick)
+{
+    printf("quick scrub: ");
+    if (quick.refusal != 0)
+        show_refusal(quick.refusal);
+    else if (quick.differs == 0)
+        printf("fits\n");
+    else
+        printf("differs, guards combine to %04" PRIX32 "\n", quick.combination);
+}
+
+/*
+ * The scan, as if the drives handed over `step` bytes at a time, each in its turn. Each call is given the state that
+ * the one before gave back. A refused call ends the scan.
+ */
+static struct irumbolai_verdict scan(const struct stripe *stripe, size_t step)
+{
+    uint8_t work[DATA_BYTES];
+    struct irumbolai_taken taken = irumbolai_start(stripe->members, stripe->stripes, stripe->volume, stripe->number,
+                                                   work, sizeof work);
+
+    for (size_t at = 0; at < BLOCK_BYTES && taken.refusal == 0; at += step) {
+        size_t length = BLOCK_BYTES - at < step ? BLOCK_BYTES - at : step;
+
+        for (size_t member = 0; member < stripe->members && taken.refusal == 0; member++)
+            taken = irumbolai_piece(taken.state, member, block_of(stripe, member) + at, length, work, sizeof work);
+    }
+    if (taken.refusal != 0) {
+        struct irumbolai_verdict refused = {.refusal = taken.refusal};
+        return refused;
+    }
+    return irumbolai_finish(taken.state, work, sizeof work);
+}
+
+/* Asks the library everything about a stripe. */
+static enum exit_code look_at(const struct stripe *stripe)
+{
+    struct irumbolai_verdict whole = irumbolai_scrub(stripe->members, stripe->stripes, stripe->volume, stripe->number,
+                                                     stripe->bytes, stripe->length);
+
+    printf("stripe %" PRIu64 " of %" PRIu64 ", members %zu, volume %u\n", stripe->number, stripe->stripes,
+           stripe->members, (unsigned)stripe->volume);
+    if (whole.refusal != 0) {
+        show_verdict("scrub", whole);
+        return REFUSED;
+    }
+
+    /* The scrub was done, so the numbers are in range and there is a whole block for each member. */
+    for (size_t member = 0; member < stripe->members; member++)
+        show_member(stripe, member);
+    show_verdict("scrub", whole);
+
+    struct irumbolai_quick quick = quick_scrub(stripe);
+    show_quick(quick);
+
+    struct irumbolai_verdict halves = scan(stripe, BLOCK_BYTES / 2);
+    struct irumbolai_verdict singles = scan(stripe, 1);
+    show_verdict("scan in two halves", halves);
+    show_verdict("scan in single bytes", singles);
+
+    bool agree = same(whole, halves) && same(whole, singles);
+    printf("the three verdicts %s\n", agree ? "agree" : "DIFFER");
+    return agree && whole.kind == 0 && quick.differs == 0 ? CLEAN : FOUND;
+}
+
+/* A decimal number, at most `most`. */
+static bool read_number(const char *text, uint64_t most, uint64_t *number)
+{
+    char *end;
+
+    if (text[0] < '0' || text[0] > '9')
+        return false;
+    errno = 0;
+    *number = strtoull(text, &end, 10);
+    return errno == 0 && *end == '\0' && *number <= most;
+}
+
+/*
+ * The bytes of a file, in memory of exactly their number, so that a tool which watches memory notices any step beyond.
+ * Of a file longer than every stripe one byte too many is read, and the library refuses it for its length.
+ */
+static bool read_stripe(const char *path, struct stripe *stripe)
+{
+    uint8_t buffer[MOST_MEMBERS * BLOCK_BYTES + 1];
+    FILE *file = fopen(path, "rb");
+
+    if (file == NULL)
+        return false;
+    stripe->length = fread(buffer, 1, sizeof buffer, file);
+    if (ferror(file)) {
+        fclose(file);
+        return false;
+    }
+    fclose(file);
+
+    /* An empty buffer needs a pointer too: the library takes no NULL. */
+    stripe->bytes = malloc(stripe->length > 0 ? stripe->length : 1);
+    if (stripe->bytes == NULL)
+        return false;
+    memcpy(stripe->bytes, buffer, stripe->length);
+    return true;
+}
+
+int main(int argc, char **argv)
+{
+    struct stripe stripe;
+    uint64_t members, volume;
+    enum exit_code code;
+
+    if (argc != 6 || !read_number(argv[1], SIZE_MAX, &members) ||
+        !read_number(argv[2], UINT64_MAX, &stripe.stripes) || !read_number(argv[3], UINT8_MAX, &volume) ||
+        !read_number(argv[4], UINT64_MAX, &stripe.number)) {
+        fprintf(stderr, "usage: rig MEMBERS STRIPES VOLUME STRIPE FILE\n");
+        return REFUSED;
+    }
+    stripe.members = (size_t)members;
+    stripe.volume = (uint8_t)volume;
+    if (!read_stripe(argv[5], &stripe)) {
+        fprintf(stderr, "rig: %s cannot be read\n", argv[5]);
+        return REFUSED;
+    }
+
+    code = look_at(&stripe);
+    free(stripe.bytes);
+    if (fflush(stdout) != 0 || ferror(stdout)) {
+        fprintf(stderr, "rig: the lines cannot be written\n");
+        return REFUSED;
+    }
+    return code;
+}

@@ -1,0 +1,209 @@
+// Every call of the header from C++, on the stripes of the bench table; every field of every answer is looked at. Each buffer that is lent
+// has its exact length on the heap, so that valgrind notices any step beyond.
+#include <algorithm>
+#include <cstdio>
+#include <cstdlib>
+#include <vector>
+
+#include "irumbolai.h"
+
+typedef std::vector<uint8_t> Bytes;
+
+static int compared = 0;
+
+static void due(const char *what, uint64_t found, uint64_t expected)
+{
+    compared++;
+    if (found != expected) {
+        std::printf("calls: %s is %llu and should be %llu\n", what, (unsigned long long)found, (unsigned long long)expected);
+        std::exit(1);
+    }
+}
+
+#define DUE(found, expected) due(#found, found, expected)
+
+// 512 bytes of zeros with these at their end.
+static Bytes ending(std::initializer_list<uint8_t> last)
+{
+    Bytes data(512);
+    std::copy(last.begin(), last.end(), data.end() - static_cast<std::ptrdiff_t>(last.size()));
+    return data;
+}
+
+static Bytes joined(const Bytes &a, const Bytes &b)
+{
+    Bytes both(a);
+    both.insert(both.end(), b.begin(), b.end());
+    return both;
+}
+
+// A stripe of three zero blocks, but for what the parity ends in, with tags that fit.
+static Bytes torn(std::initializer_list<uint8_t> last, uint8_t high, uint8_t low)
+{
+    Bytes parity = joined(ending(last), {high, low, 0x80, 7, 0, 0, 0, 0});
+    return joined(parity, joined(joined(ending({}), {0, 0, 0, 7, 0, 0, 0, 0}), joined(ending({}), {0, 0, 0, 7, 0, 0, 0, 1})));
+}
+
+// The sealed stripe of the table: data end in 01 and 02.
+static Bytes sealed()
+{
+    Bytes stripe = joined(ending({3}), {0x17, 0x6E, 0x80, 7, 0, 0, 0, 0});
+    stripe = joined(stripe, joined(ending({1}), {0x8B, 0xB7, 0, 7, 0, 0, 0, 0}));
+    return joined(stripe, joined(ending({2}), {0x9C, 0xD9, 0, 7, 0, 0, 0, 1}));
+}
+
+static void due_verdict(struct irumbolai_verdict verdict, uint32_t refusal, uint32_t kind, uint32_t first, uint32_t count)
+{
+    DUE(verdict.refusal, refusal);
+    DUE(verdict.kind, kind);
+    DUE(verdict.first, first);
+    DUE(verdict.count, count);
+}
+
+static void places()
+{
+    const uint8_t one = 1;
+    DUE(irumbolai_guard(&one, 1), 0x8BB7);
+    DUE(irumbolai_guard(&one, 0), 0);
+
+    struct irumbolai_place place = irumbolai_place(16, 268435456, 7, 4026531839);
+    DUE(place.refusal, 0);
+    DUE(place.member, 14);
+    DUE(place.stripe, 268435455);
+    DUE(irumbolai_place(16, 268435456, 7, 4026531840).refusal, 3);
+
+    struct irumbolai_owner owner = irumbolai_owner(5, 65537, 7, 65536, 1);
+    DUE(owner.refusal, 0);
+    DUE(owner.parity, 1);
+    DUE(owner.block, 0x00040000);
+    DUE(irumbolai_owner(5, 65537, 7, 65536, 5).refusal, 5);
+}
+
+static void checks()
+{
+    Bytes block = joined(ending({3}), {0x8B, 0xB7, 0, 7, 0, 0, 0, 0});
+    struct irumbolai_check check = irumbolai_check(3, 1, 7, 0, 1, block.data(), block.size());
+    DUE(check.refusal, 0);
+    DUE(check.field, 1);
+    DUE(check.found, 0x8BB7);
+    DUE(check.expected, 0x176E);
+    block[511] = 1;
+    check = irumbolai_check(3, 1, 7, 0, 1, block.data(), block.size());
+    DUE(check.refusal, 0);
+    DUE(check.field, 0);
+    check = irumbolai_check(3, 1, 7, 0, 2, block.data(), block.size());
+    DUE(check.field, 3);
+    DUE(check.found, 0);
+    DUE(check.expected, 1);
+    DUE(irumbolai_check(3, 1, 7, 0, 1, block.data(), 519).refusal, 6);
+}
+
+static void jobs()
+{
+    Bytes data = joined(ending({1}), ending({2})), stripe(1560, 0xFF), out(512, 0xFF);
+    DUE(irumbolai_seal(3, 1, 7, 0, data.data(), data.size() - 1, stripe.data(), stripe.size()), 6);
+    DUE(stripe == Bytes(1560, 0xFF), true);
+    DUE(irumbolai_seal(3, 1, 7, 0, data.data(), data.size(), stripe.data(), stripe.size()), 0);
+    DUE(stripe == sealed(), true);
+
+    struct irumbolai_read read = irumbolai_read(3, 1, 7, 1, stripe.data(), stripe.size(), out.data(), out.size());
+    DUE(read.refusal, 0);
+    DUE(read.rebuilt, 0);
+    DUE(out == ending({2}), true);
+    stripe[520] ^= 0x10;
+    read = irumbolai_read(3, 1, 7, 0, stripe.data(), stripe.size(), out.data(), out.size());
+    DUE(read.refusal, 0);
+    DUE(read.rebuilt, 1);
+    DUE(out == ending({1}), true);
+    DUE(irumbolai_rebuild(3, 1, 7, 0, 0, stripe.data(), stripe.size()), 9);
+    DUE(irumbolai_rebuild(3, 1, 7, 0, 1, stripe.data(), stripe.size()), 0);
+    DUE(stripe == sealed(), true);
+
+    Bytes zeros(512);
+    DUE(irumbolai_update(3, 1, 7, 0, zeros.data(), zeros.size(), stripe.data(), stripe.size()), 0);
+    DUE(stripe[512] << 8 | stripe[513], 0x9CD9);
+    DUE(stripe[520 + 512] << 8 | stripe[520 + 513], 0);
+}
+
+static void scrubs()
+{
+    Bytes stripe = sealed();
+    due_verdict(irumbolai_scrub(3, 1, 7, 0, stripe.data(), stripe.size()), 0, 0, 0, 0);
+    stripe[2 * 520] ^= 1;
+    stripe[520 + 519] ^= 1;
+    due_verdict(irumbolai_scrub(3, 1, 7, 0, stripe.data(), stripe.size()), 0, 1, 1, 2);
+    due_verdict(irumbolai_scrub(3, 0, 7, 0, stripe.data(), stripe.size()), 2, 0, 0, 0);
+    stripe = torn({0x01, 0x8B, 0xB7}, 0, 0);
+    due_verdict(irumbolai_scrub(3, 1, 7, 0, stripe.data(), stripe.size()), 0, 2, 509, 0);
+
+    std::vector<uint16_t> guards = {0x176E, 0x8BB7, 0x9CD9};
+    struct irumbolai_quick quick = irumbolai_quick_scrub(guards.data(), guards.size());
+    DUE(quick.refusal, 0);
+    DUE(quick.differs, 0);
+    DUE(quick.combination, 0);
+    guards = {0x8BB7, 0, 0};
+    quick = irumbolai_quick_scrub(guards.data(), guards.size());
+    DUE(quick.refusal, 0);
+    DUE(quick.differs, 1);
+    DUE(quick.combination, 0x8BB7);
+    DUE(irumbolai_quick_scrub(guards.data(), 2).refusal, 1);
+}
+
+// Numbers that all differ, so that no field of the state can stand for another.
+static void states()
+{
+    Bytes work(512, 0xFF), piece = joined(ending({2}), {0xA1, 0xB2, 0xC3});
+    struct irumbolai_taken taken = irumbolai_start(5, 70000, 7, 65536, work.data(), work.size());
+    DUE(taken.refusal, 0);
+    DUE(work == Bytes(512), true);
+    taken = irumbolai_piece(taken.state, 4, piece.data(), piece.size(), work.data(), work.size());
+    for (int again = 0; again < 2; again++) {
+        DUE(taken.refusal, again == 0 ? 0 : 7);
+        DUE(taken.state.members, 5);
+        DUE(taken.state.stripes, 70000);
+        DUE(taken.state.volume, 7);
+        DUE(taken.state.stripe, 65536);
+        for (int i = 0; i < 16; i++) {
+            DUE(taken.state.at[i], i == 4 ? 515 : 0);
+            DUE(taken.state.register_[i], i == 4 ? 0x9CD9 : 0);
+        }
+        for (int i = 0; i < 128; i++)
+            DUE(taken.state.tag[i], i == 32 ? 0xA1 : i == 33 ? 0xB2 : i == 34 ? 0xC3 : 0);
+        DUE(work == ending({2}), true);
+        taken = irumbolai_piece(taken.state, 4, piece.data(), 6, work.data(), work.size());
+    }
+    DUE(irumbolai_piece(taken.state, 5, piece.data(), 0, work.data(), work.size()).refusal, 5);
+    due_verdict(irumbolai_finish(taken.state, work.data(), work.size()), 8, 0, 0, 0);
+    due_verdict(irumbolai_finish(taken.state, work.data(), 511), 6, 0, 0, 0);
+    taken.state.members = 2;
+    due_verdict(irumbolai_finish(taken.state, work.data(), work.size()), 4, 0, 0, 0);
+}
+
+// A stripe in pieces of at most seven bytes, each a buffer of its own, the last member first.
+static struct irumbolai_verdict scanned(const Bytes &stripe)
+{
+    Bytes work(512, 0xFF);
+    struct irumbolai_taken taken = irumbolai_start(3, 1, 7, 0, work.data(), work.size());
+    for (size_t at = 0; at < 520; at += 7)
+        for (size_t member = 3; member-- > 0;) {
+            const uint8_t *block = stripe.data() + 520 * member;
+            const Bytes piece(block + at, block + std::min<size_t>(at + 7, 520));
+            taken = irumbolai_piece(taken.state, member, piece.data(), piece.size(), work.data(), work.size());
+            DUE(taken.refusal, 0);
+        }
+    return irumbolai_finish(taken.state, work.data(), work.size());
+}
+
+int main()
+{
+    places();
+    checks();
+    jobs();
+    scrubs();
+    states();
+    due_verdict(scanned(sealed()), 0, 0, 0, 0);
+    due_verdict(scanned(torn({0x01, 0x8B, 0xB6}, 0x8B, 0xB7)), 0, 2, 509, 0);
+    due_verdict(scanned(torn({0x01, 0x8B, 0xB6}, 0x8B, 0xB6)), 0, 1, 0, 1);
+    std::printf("every call from C++, %d values as due\n", compared);
+    return 0;
+}
