@@ -109,120 +109,61 @@ mod c {
 // SAFETY, for every call: each pointer comes with the length of its own buffer, which is lent for the call alone,
 // and is not const only where the header lets the call write.
 
-pub fn guard(bytes: &[u8]) -> u16 {
-    unsafe { c::irumbolai_guard(bytes.as_ptr(), bytes.len()) }
+pub fn guard(bytes: &Lent<u8>) -> u16 {
+    unsafe { c::irumbolai_guard(bytes.pointer(), bytes.length()) }
+}
+
+/// An array's numbers, in the order in which every call takes them.
+fn numbers(array: &Array) -> (usize, u64, u8) {
+    (array.members, array.stripes, array.volume)
 }
 
 pub fn place(array: &Array, block: u64) -> Place {
-    let Array {
-        members,
-        stripes,
-        volume,
-    } = *array;
+    let (members, stripes, volume) = numbers(array);
     unsafe { c::irumbolai_place(members, stripes, volume, block) }
 }
 
 pub fn owner(array: &Array, stripe: u64, member: usize) -> Owner {
-    let Array {
-        members,
-        stripes,
-        volume,
-    } = *array;
+    let (members, stripes, volume) = numbers(array);
     unsafe { c::irumbolai_owner(members, stripes, volume, stripe, member) }
 }
 
 pub fn check(array: &Array, stripe: u64, member: usize, block: &Lent<u8>) -> Check {
-    let Array {
-        members,
-        stripes,
-        volume,
-    } = *array;
+    let (members, stripes, volume) = numbers(array);
     let (pointer, length) = (block.pointer(), block.length());
     unsafe { c::irumbolai_check(members, stripes, volume, stripe, member, pointer, length) }
 }
 
+/// A job on a stripe or a block that reads one buffer and writes another.
+type Job<T> = unsafe extern "C" fn(usize, u64, u8, u64, *const u8, usize, *mut u8, usize) -> T;
+
+fn job<T>(call: Job<T>, array: &Array, number: u64, from: &Lent<u8>, to: &mut Lent<u8>) -> T {
+    let (members, stripes, volume) = numbers(array);
+    let (source, length) = (from.pointer(), from.length());
+    let (room, size) = (to.pointer_mut(), to.length());
+    unsafe { call(members, stripes, volume, number, source, length, room, size) }
+}
+
 pub fn seal(array: &Array, stripe: u64, data: &Lent<u8>, bytes: &mut Lent<u8>) -> u32 {
-    let Array {
-        members,
-        stripes,
-        volume,
-    } = *array;
-    let (from, from_length) = (data.pointer(), data.length());
-    let (to, to_length) = (bytes.pointer_mut(), bytes.length());
-    unsafe {
-        c::irumbolai_seal(
-            members,
-            stripes,
-            volume,
-            stripe,
-            from,
-            from_length,
-            to,
-            to_length,
-        )
-    }
+    job(c::irumbolai_seal, array, stripe, data, bytes)
 }
 
 pub fn read(array: &Array, block: u64, bytes: &Lent<u8>, out: &mut Lent<u8>) -> Read {
-    let Array {
-        members,
-        stripes,
-        volume,
-    } = *array;
-    let (from, from_length) = (bytes.pointer(), bytes.length());
-    let (to, to_length) = (out.pointer_mut(), out.length());
-    unsafe {
-        c::irumbolai_read(
-            members,
-            stripes,
-            volume,
-            block,
-            from,
-            from_length,
-            to,
-            to_length,
-        )
-    }
+    job(c::irumbolai_read, array, block, bytes, out)
+}
+
+pub fn update(array: &Array, block: u64, data: &Lent<u8>, bytes: &mut Lent<u8>) -> u32 {
+    job(c::irumbolai_update, array, block, data, bytes)
 }
 
 pub fn rebuild(array: &Array, stripe: u64, member: usize, bytes: &mut Lent<u8>) -> u32 {
-    let Array {
-        members,
-        stripes,
-        volume,
-    } = *array;
+    let (members, stripes, volume) = numbers(array);
     let (to, to_length) = (bytes.pointer_mut(), bytes.length());
     unsafe { c::irumbolai_rebuild(members, stripes, volume, stripe, member, to, to_length) }
 }
 
-pub fn update(array: &Array, block: u64, data: &Lent<u8>, bytes: &mut Lent<u8>) -> u32 {
-    let Array {
-        members,
-        stripes,
-        volume,
-    } = *array;
-    let (from, from_length) = (data.pointer(), data.length());
-    let (to, to_length) = (bytes.pointer_mut(), bytes.length());
-    unsafe {
-        c::irumbolai_update(
-            members,
-            stripes,
-            volume,
-            block,
-            from,
-            from_length,
-            to,
-            to_length,
-        )
-    }
-}
-
 pub fn scrub(array: &Array, stripe: u64, bytes: &Lent<u8>) -> Verdict {
-    let Array {
-        members,
-        stripes,
-        volume,
-    } = *array;
+    let (members, stripes, volume) = numbers(array);
     let (pointer, length) = (bytes.pointer(), bytes.length());
     unsafe { c::irumbolai_scrub(members, stripes, volume, stripe, pointer, length) }
 }
@@ -232,11 +173,7 @@ pub fn quick_scrub(guards: &Lent<u16>) -> Quick {
 }
 
 pub fn start(array: &Array, stripe: u64, work: &mut Lent<u8>) -> Taken {
-    let Array {
-        members,
-        stripes,
-        volume,
-    } = *array;
+    let (members, stripes, volume) = numbers(array);
     let (to, to_length) = (work.pointer_mut(), work.length());
     unsafe { c::irumbolai_start(members, stripes, volume, stripe, to, to_length) }
 }

@@ -1,6 +1,7 @@
 //! The guard on runs of many lengths.
 
 use super::Outcome;
+use crate::lent::Lent;
 use crate::library;
 use crate::model::guard::{go_on, guard};
 use crate::random::Random;
@@ -12,7 +13,9 @@ const RANDOM: usize = 80_000;
 
 /// One input: counted, or the difference.
 fn same(what: &str, bytes: &[u8], count: &mut u64) -> Outcome<()> {
-    let (model, library) = (guard(bytes), library::guard(bytes));
+    let lent = Lent::new(bytes);
+    let (model, library) = (guard(bytes), library::guard(&lent));
+    lent.kept(what)?;
     if model != library {
         return Err(format!(
             "{what}, {} bytes: the model has {model:04X}, the library {library:04X}",
