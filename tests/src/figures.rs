@@ -1,10 +1,10 @@
 //! The bench figures of paper 01, and the guards that SBC-3 publishes, run through the model alone.
 
-use crate::model::guard::{go_on, guard};
-use crate::model::layout::{Array, Owner, Place};
-use crate::model::scan::History;
-use crate::model::stripe::{self, BLOCK, Checked, DATA, Verdict};
 use crate::random::Random;
+use model::guard::{go_on, guard};
+use model::layout::{Array, Owner, Place};
+use model::scan::History;
+use model::stripe::{self, BLOCK, Checked, DATA, Verdict};
 use std::fmt::Debug;
 
 /// Figures that were right, or the first that was not.

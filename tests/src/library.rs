@@ -1,7 +1,8 @@
 //! The calls of include/irumbolai.h, over lent buffers.
 
 use crate::lent::Lent;
-use crate::model::layout::Array;
+use model::layout::Array;
+use model::scan::Scan;
 
 #[repr(C)]
 #[derive(Clone, Copy, Debug, PartialEq)]
@@ -52,30 +53,6 @@ pub struct Quick {
     pub refusal: u32,
     pub differs: u32,
     pub combination: u32,
-}
-
-#[repr(C)]
-#[derive(Clone, Copy, Debug, PartialEq)]
-pub struct Scan {
-    pub members: usize,
-    pub stripes: u64,
-    pub volume: u8,
-    pub stripe: u64,
-    pub at: [u16; 16],
-    pub register: [u16; 16],
-    pub tag: [u8; 128],
-}
-
-impl Scan {
-    pub const ZEROS: Scan = Scan {
-        members: 0,
-        stripes: 0,
-        volume: 0,
-        stripe: 0,
-        at: [0; 16],
-        register: [0; 16],
-        tag: [0; 128],
-    };
 }
 
 #[repr(C)]

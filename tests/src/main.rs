@@ -5,7 +5,6 @@ mod compare;
 mod figures;
 mod lent;
 mod library;
-mod model;
 mod random;
 
 use random::Random;

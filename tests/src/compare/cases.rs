@@ -1,10 +1,10 @@
 //! What to compare on: arrays and their stripes, good and damaged, and numbers and lengths that must be refused.
 
 use super::Outcome;
-use crate::model::guard;
-use crate::model::layout::{Array, Owner};
-use crate::model::stripe::{self, BLOCK, DATA};
 use crate::random::Random;
+use model::guard;
+use model::layout::{Array, Owner};
+use model::stripe::{self, BLOCK, DATA};
 
 /// How many stripes are tried of each number of members.
 const STRIPES_EACH: usize = 1_430;

@@ -3,8 +3,8 @@
 use super::Outcome;
 use crate::lent::Lent;
 use crate::library;
-use crate::model::guard::{go_on, guard};
 use crate::random::Random;
+use model::guard::{go_on, guard};
 
 const LONGEST: usize = 4_200;
 const BLOCK: usize = 512;

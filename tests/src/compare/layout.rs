@@ -2,9 +2,9 @@
 
 use super::{Outcome, Tally, cases, done_name, refusal, same, tally};
 use crate::library;
-use crate::model::Answer;
-use crate::model::layout::{Array, Owner, Place};
 use crate::random::Random;
+use model::Answer;
+use model::layout::{Array, Owner, Place};
 
 const RANDOM: usize = 40_000;
 

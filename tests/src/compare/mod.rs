@@ -10,8 +10,8 @@ pub mod tag;
 mod tally;
 
 use crate::library;
-use crate::model::Answer;
-use crate::model::stripe::Verdict;
+use model::Answer;
+use model::stripe::Verdict;
 use std::fmt::Debug;
 use tally::Tally;
 

@@ -3,11 +3,11 @@
 use super::cases::{self, Case};
 use super::{Outcome, Tally, done_name, refusal, same, verdict_name, verdict_numbers};
 use crate::lent::{Lent, between_margins};
-use crate::library::{self, Scan, Taken};
-use crate::model::layout::Array;
-use crate::model::scan::{self, History};
-use crate::model::stripe::{self, BLOCK, DATA};
+use crate::library::{self, Taken};
 use crate::random::Random;
+use model::layout::Array;
+use model::scan::{self, History, Scan};
+use model::stripe::{self, BLOCK, DATA};
 
 const LISTS: usize = 50_000;
 const STATES: usize = 100_000;

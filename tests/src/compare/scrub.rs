@@ -4,9 +4,9 @@ use super::cases::{self, Case};
 use super::{Outcome, Tally, refusal, same, tally, verdict_name, verdict_numbers};
 use crate::lent::Lent;
 use crate::library;
-use crate::model::layout::Array;
-use crate::model::stripe::{self, Verdict};
 use crate::random::Random;
+use model::layout::Array;
+use model::stripe::{self, Verdict};
 
 fn scrub(array: &Array, stripe: u64, bytes: &[u8], tally: &mut Tally) -> Outcome<()> {
     let answer = stripe::scrub(array, stripe, bytes);

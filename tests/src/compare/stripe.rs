@@ -4,9 +4,9 @@ use super::cases::{self, Case};
 use super::{Outcome, Tally, done_name, refusal, same, tally};
 use crate::lent::Lent;
 use crate::library;
-use crate::model::layout::Array;
-use crate::model::stripe::{self, DATA};
 use crate::random::Random;
+use model::layout::Array;
+use model::stripe::{self, DATA};
 
 fn seal(array: &Array, stripe: u64, data: &[u8], before: &[u8], tally: &mut Tally) -> Outcome<()> {
     let answer = stripe::seal(array, stripe, data, before);

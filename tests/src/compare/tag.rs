@@ -3,10 +3,10 @@
 use super::{Outcome, Tally, cases, refusal, same, tally};
 use crate::lent::Lent;
 use crate::library;
-use crate::model::Answer;
-use crate::model::layout::Array;
-use crate::model::stripe::{self, BLOCK, Checked, Field};
 use crate::random::Random;
+use model::Answer;
+use model::layout::Array;
+use model::stripe::{self, BLOCK, Checked, Field};
 
 fn check_numbers(answer: &Answer<Checked>) -> library::Check {
     let (field, found, expected) = match *answer {

@@ -1,4 +1,4 @@
-//! The rules, written down a second time.
+//! The rules, written down a second time: a library of its own, so that programs can use it without the proved one.
 
 pub mod guard;
 pub mod layout;

@@ -3,7 +3,31 @@
 use super::layout::Array;
 use super::stripe::{self, BLOCK, DATA, Verdict};
 use super::{Answer, guard};
-use crate::library::Scan;
+
+/// The state of a scan, laid out as the C header has it.
+#[repr(C)]
+#[derive(Clone, Copy, Debug, PartialEq)]
+pub struct Scan {
+    pub members: usize,
+    pub stripes: u64,
+    pub volume: u8,
+    pub stripe: u64,
+    pub at: [u16; 16],
+    pub register: [u16; 16],
+    pub tag: [u8; 128],
+}
+
+impl Scan {
+    pub const ZEROS: Scan = Scan {
+        members: 0,
+        stripes: 0,
+        volume: 0,
+        stripe: 0,
+        at: [0; 16],
+        register: [0; 16],
+        tag: [0; 128],
+    };
+}
 
 /// A work buffer.
 pub type Work = [u8; DATA];
