@@ -3,6 +3,7 @@
 use crate::random::Random;
 use model::guard::{go_on, guard};
 use model::layout::{Array, Owner, Place};
+use model::report;
 use model::scan::History;
 use model::stripe::{self, BLOCK, Checked, DATA, Verdict};
 use std::fmt::Debug;
@@ -124,6 +125,16 @@ impl Figures {
         )
     }
 
+    fn report(&mut self) -> Result<(), String> {
+        let header = [0x00, 0x07, 0x01, 0x03, 0x07, 0x00, 0x00, 0x00, 0x01];
+        self.due("header", report::header(&array(3, 1)), header)?;
+        self.due(
+            "report",
+            &report::report(&[&header[..], &sealed()].concat())[..],
+            "SCRUB v1 members 3 stripes 1\n0 CLEAN\nTOTAL 1 clean 1 bad 0 torn 0\n",
+        )
+    }
+
     fn torn_stripes(&mut self) -> Result<(), String> {
         let three = array(3, 1);
         for (ending, combination) in [([0x01, 0x8B, 0xB7], 0x0000), ([0x01, 0x8B, 0xB6], 0x8BB7)] {
@@ -201,6 +212,7 @@ pub fn check(_: &mut Random) -> Result<String, String> {
     figures.guards()?;
     figures.places()?;
     figures.sealed_stripe()?;
+    figures.report()?;
     figures.torn_stripes()?;
     figures.pieces()?;
     Ok(format!("{} right in the model itself", figures.right))

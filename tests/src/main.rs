@@ -1,17 +1,18 @@
-//! A second program for the proved library: a model of its own, written from the standard and the rules,
-//! and comparisons of the two on many inputs.
+//! Comparisons of the proved library and the report program with a model of their own, written from the standard and the rules,
+//! on many inputs.
 
 mod compare;
 mod figures;
 mod lent;
 mod library;
+mod program;
 mod random;
 
 use random::Random;
 use std::process::ExitCode;
 use std::thread;
 
-/// Compares one part of the library with its model: what was compared, or the first difference.
+/// Compares one part of the library, or the program, with its model: what was compared, or the first difference.
 type Comparison = fn(&mut Random) -> Result<String, String>;
 
 const PARTS: &[(&str, Comparison)] = &[
@@ -22,6 +23,8 @@ const PARTS: &[(&str, Comparison)] = &[
     ("stripe", compare::stripe::compare),
     ("scrub", compare::scrub::compare),
     ("scan", compare::scan::compare),
+    ("images", compare::images::compare),
+    ("large image", compare::large::compare),
 ];
 
 fn main() -> ExitCode {

@@ -168,6 +168,11 @@ impl Case {
         random.pick(&DAMAGES)(self, member, random);
     }
 
+    /// Another byte at a place of a member's block.
+    pub fn spoil(&mut self, member: usize, place: usize, random: &mut Random) {
+        self.block(member)[place] ^= random.between(1, 255) as u8;
+    }
+
     fn block(&mut self, member: usize) -> &mut [u8] {
         &mut self.bytes[stripe::span(member)]
     }
@@ -180,7 +185,7 @@ impl Case {
     }
 
     /// A member's tag made due again, so that changed data make the stripe torn.
-    fn tag_again(&mut self, member: usize) {
+    pub fn tag_again(&mut self, member: usize) {
         self.tag_as(self.array, self.stripe, member, member);
     }
 }

@@ -1,7 +1,9 @@
-//! Comparisons of the library with the model.
+//! Comparisons of the library and the report program with the model.
 
 pub mod cases;
 pub mod guard;
+pub mod images;
+pub mod large;
 pub mod layout;
 pub mod scan;
 pub mod scrub;

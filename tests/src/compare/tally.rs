@@ -12,7 +12,7 @@ pub struct Tally {
 
 /// The name of a refusal.
 pub fn refused(number: u32) -> &'static str {
-    const NAMES: [&str; 10] = ["0", "1", "2", "3", "4", "5", "6", "7", "8", "9"];
+    const NAMES: [&str; 12] = ["0", "1", "2", "3", "4", "5", "6", "7", "8", "9", "10", "11"];
     NAMES[number as usize]
 }
 

@@ -2,6 +2,7 @@
 
 pub mod guard;
 pub mod layout;
+pub mod report;
 pub mod scan;
 pub mod stripe;
 

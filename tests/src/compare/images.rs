@@ -1,0 +1,347 @@
+//! The report program on images of every kind, through a pipe in small writes.
+
+use super::cases::Case;
+use super::{Outcome, Tally, tally};
+use crate::program::{self, Input};
+use crate::random::Random;
+use model::layout::Array;
+use model::report::{self, HEADER};
+use model::stripe::{self, BLOCK, DATA, Verdict};
+use std::thread;
+use std::time::Duration;
+
+/// The numbers of members that each kind of image is made for.
+const MEMBERS: [usize; 3] = [3, 5, 16];
+/// How many images have a random header, and how many random stripes.
+const HEADERS: usize = 800;
+const IMAGES: usize = 450;
+
+/// Places in a block: the ends of the data, and each byte of the tag.
+#[rustfmt::skip]
+const PLACES: [usize; 11] = [0, 1, DATA - 1, DATA, 513, 514, 515, 516, 517, 518, BLOCK - 1];
+
+/// Headers and the numbers of their refusals: where several numbers fit, 10 goes first, then 1.
+#[rustfmt::skip]
+const REFUSED: [(u32, [u8; HEADER]); 22] = [
+    (10, [0, 6, 1, 3, 7, 0, 0, 0, 1]),
+    (10, [0, 8, 1, 3, 7, 0, 0, 0, 1]),
+    (10, [1, 7, 1, 3, 7, 0, 0, 0, 1]),
+    (10, [7, 0, 1, 3, 7, 0, 0, 0, 1]),
+    (10, [0, 9, 1, 3, 7, 0, 0, 0, 1]),
+    (10, [0, 7, 0, 3, 7, 0, 0, 0, 1]),
+    (10, [0, 7, 2, 3, 7, 0, 0, 0, 1]),
+    (10, [0, 7, 255, 3, 7, 0, 0, 0, 1]),
+    (10, [0, 8, 1, 2, 7, 0, 0, 0, 0]),
+    (10, [0, 7, 2, 17, 7, 255, 255, 255, 255]),
+    (1, [0, 7, 1, 0, 7, 0, 0, 0, 1]),
+    (1, [0, 7, 1, 1, 7, 0, 0, 0, 1]),
+    (1, [0, 7, 1, 2, 7, 0, 0, 0, 1]),
+    (1, [0, 7, 1, 17, 7, 0, 0, 0, 1]),
+    (1, [0, 7, 1, 131, 7, 0, 0, 0, 1]),
+    (1, [0, 7, 1, 255, 7, 0, 0, 0, 1]),
+    (1, [0, 7, 1, 2, 7, 0, 0, 0, 0]),
+    (1, [0, 7, 1, 17, 7, 16, 0, 0, 1]),
+    (2, [0, 7, 1, 3, 7, 0, 0, 0, 0]),
+    (2, [0, 7, 1, 3, 7, 16, 0, 0, 1]),
+    (2, [0, 7, 1, 16, 7, 128, 0, 0, 1]),
+    (2, [0, 7, 1, 5, 7, 255, 255, 255, 255]),
+];
+
+/// Writes an image in pieces that are random and small. Now and then it waits, so that the program reads less than it has room for.
+fn in_pieces(image: &[u8], input: &mut Input, random: &mut Random) -> Outcome<()> {
+    let longest = match image.len() {
+        0..8_192 => random.pick(&[1, 7, BLOCK + 1, 4_096]),
+        _ => random.pick(&[BLOCK + 1, 4_096, 70_000]),
+    };
+    let mut rest = image;
+    while !rest.is_empty() {
+        let length = 1 + random.below(longest.min(rest.len()));
+        let (piece, later) = rest.split_at(length);
+        input.write(piece)?;
+        rest = later;
+        match random.below(200) {
+            0 => thread::sleep(Duration::from_micros(50)),
+            1..10 => thread::yield_now(),
+            _ => {}
+        }
+    }
+    Ok(())
+}
+
+/// What a line says, for the tally.
+fn line_name(line: &str) -> &'static str {
+    match line.split(' ').collect::<Vec<_>>()[..] {
+        ["SCRUB", ..] => "scrub",
+        ["TOTAL", ..] => "total",
+        ["REFUSED", number] => tally::refused(number.parse().expect("the model's own number")),
+        [_, "CLEAN"] => "clean",
+        [_, "BAD", ..] => "bad",
+        [_, "TORN", _] => "torn",
+        _ => panic!("the model wrote the line {line}"),
+    }
+}
+
+/// The report that is due is the one that was found, to the byte.
+pub fn same_report(due: &str, found: &str) -> Outcome<()> {
+    if due == found {
+        return Ok(());
+    }
+    let mut lines = found.split_inclusive('\n');
+    for (number, line) in due.split_inclusive('\n').enumerate() {
+        let found = lines.next().unwrap_or("");
+        if found != line {
+            return Err(format!("line {number} is {found:?}, and {line:?} is due"));
+        }
+    }
+    Err(format!(
+        "{:?} comes after its end",
+        lines.collect::<String>()
+    ))
+}
+
+/// How many images were compared, and what their lines were.
+#[derive(Default)]
+struct Compared {
+    images: u64,
+    lines: Tally,
+}
+
+impl Compared {
+    fn compare(&mut self, what: &str, image: &[u8], random: &mut Random) -> Outcome<()> {
+        let due = report::report(image);
+        let compared = program::piped(|input| in_pieces(image, input, random), program::text);
+        compared
+            .and_then(|((), found)| same_report(&due, &found))
+            .map_err(|difference| {
+                let header = &image[..image.len().min(HEADER)];
+                let length = image.len();
+                format!("{what}, {length} bytes, header {header:02X?}: {difference}")
+            })?;
+        self.images += 1;
+        for line in due.lines() {
+            self.lines.add("lines", line_name(line));
+        }
+        Ok(())
+    }
+
+    /// An image whose verdicts are known from the damage that was done.
+    fn known(
+        &mut self,
+        what: &str,
+        (members, stripes): (usize, usize),
+        random: &mut Random,
+        mut damage: impl FnMut(&mut Case, &mut Random) -> Verdict,
+    ) -> Outcome<()> {
+        let array = Array {
+            members,
+            stripes: stripes as u64,
+            volume: random.next() as u8,
+        };
+        let mut image = report::header(&array).to_vec();
+        for stripe in 0..array.stripes {
+            let mut case = Case::sealed(array, stripe, random);
+            let known = damage(&mut case, random);
+            let verdict = stripe::scrub(&array, stripe, &case.bytes);
+            if verdict != Ok(known) {
+                return Err(format!(
+                    "{what}: the model has {verdict:?} for {known:?} in stripe {stripe}"
+                ));
+            }
+            image.extend(case.bytes);
+        }
+        self.compare(what, &image, random)
+    }
+}
+
+/// A member written anew from a place on, data and tag.
+fn tear(case: &mut Case, member: usize, place: usize, random: &mut Random) -> Verdict {
+    case.spoil(member, place, random);
+    if place + 1 < DATA && random.one_in(2) {
+        let later = random.between(place as u64 + 1, DATA as u64 - 1);
+        case.spoil(member, later as usize, random);
+    }
+    case.tag_again(member);
+    Verdict::Torn { place }
+}
+
+/// The members of a set, each with a bad byte; now and then another one is torn, which must not show.
+fn spoil(case: &mut Case, set: u64, random: &mut Random) -> Verdict {
+    let (bad, good): (Vec<usize>, Vec<usize>) =
+        (0..case.array.members).partition(|member| set >> member & 1 == 1);
+    if !good.is_empty() && random.one_in(2) {
+        tear(case, random.pick(&good), random.below(DATA), random);
+    }
+    for member in &bad {
+        case.spoil(*member, random.below(BLOCK), random);
+    }
+    Verdict::Bad {
+        member: bad[0],
+        count: bad.len(),
+    }
+}
+
+/// Any of the three verdicts.
+fn any_verdict(case: &mut Case, random: &mut Random) -> Verdict {
+    let members = case.array.members;
+    match random.below(3) {
+        0 => Verdict::Clean,
+        1 => spoil(case, random.between(1, (1 << members) - 1), random),
+        _ => tear(case, random.below(members), random.below(DATA), random),
+    }
+}
+
+/// Clean, bad, torn and mixed images.
+fn verdicts(members: usize, compared: &mut Compared, random: &mut Random) -> Outcome<()> {
+    compared.known("clean", (members, 40), random, |_, _| Verdict::Clean)?;
+    let bytes = members * PLACES.len();
+    compared.known("one bad byte", (members, bytes), random, |case, random| {
+        let (member, place) = (
+            case.stripe as usize / PLACES.len(),
+            case.stripe as usize % PLACES.len(),
+        );
+        case.spoil(member, PLACES[place], random);
+        Verdict::Bad { member, count: 1 }
+    })?;
+    if members <= 5 {
+        let sets = (1 << members) - 1;
+        compared.known("each set bad", (members, sets), random, |case, random| {
+            spoil(case, case.stripe + 1, random)
+        })?;
+    }
+    compared.known("some bad", (members, 100), random, |case, random| {
+        spoil(case, random.between(1, (1 << members) - 1), random)
+    })?;
+    compared.known("torn", (members, DATA), random, |case, random| {
+        let member = random.below(members);
+        tear(case, member, case.stripe as usize, random)
+    })?;
+    compared.known("mixed", (members, 100), random, any_verdict)
+}
+
+/// An image of some stripes, good and damaged.
+fn any_image(array: &Array, random: &mut Random) -> Vec<u8> {
+    let mut image = report::header(array).to_vec();
+    for stripe in 0..array.stripes {
+        image.extend(Case::any(*array, stripe, random).bytes);
+    }
+    image
+}
+
+/// Images that end too early, at every kind of place, or too late.
+fn ends(members: usize, compared: &mut Compared, random: &mut Random) -> Outcome<()> {
+    let array = Array {
+        members,
+        stripes: 3,
+        volume: random.next() as u8,
+    };
+    let length = members * BLOCK;
+    let image = any_image(&array, random);
+    for cut in 0..=HEADER {
+        compared.compare("cut in its header or after it", &image[..cut], random)?;
+    }
+    for stripe in [0, 1, 2] {
+        let begin = HEADER + stripe * length;
+        for more in [1, DATA - 1, DATA, BLOCK - 1, BLOCK, BLOCK + 1, length - 1] {
+            compared.compare("cut in a stripe", &image[..begin + more], random)?;
+        }
+        let cut = begin + 1 + random.below(length - 1);
+        compared.compare("cut in a stripe", &image[..cut], random)?;
+    }
+    for stripes in [1, 2] {
+        let cut = HEADER + stripes * length;
+        compared.compare("cut at a stripe's end", &image[..cut], random)?;
+    }
+    compared.compare("whole", &image, random)?;
+    for more in [1, 2, BLOCK, length, 3 * length] {
+        let longer = [&image[..], &random.bytes(more)].concat();
+        compared.compare("too long", &longer, random)?;
+    }
+    Ok(())
+}
+
+/// Headers that are refused, alone and with a stripe behind them.
+fn refused_headers(compared: &mut Compared, random: &mut Random) -> Outcome<()> {
+    for (number, header) in REFUSED {
+        let due = format!("REFUSED {number}\n");
+        for length in [0, 1, 3 * BLOCK] {
+            let image = [&header[..], &random.bytes(length)].concat();
+            same_report(&due, &report::report(&image))
+                .map_err(|difference| format!("the model at {header:02X?}: {difference}"))?;
+            compared.compare("refused header", &image, random)?;
+        }
+    }
+    Ok(())
+}
+
+/// A header in which one or two fields are others; now and then it is cut, or something follows.
+fn any_header(compared: &mut Compared, random: &mut Random) -> Outcome<()> {
+    let mut image = report::header(&any_array(random)).to_vec();
+    for _ in 0..random.between(1, 2) {
+        let place = random.pick(&[0, 1, 2, 3, 3, 5, 5]);
+        image[place] = random.next() as u8;
+    }
+    if random.one_in(8) {
+        image[HEADER - 1] = 0;
+    }
+    match random.below(4) {
+        0 => image.truncate(random.below(HEADER)),
+        1 => {
+            let more = random.below(2_000);
+            image.extend(random.bytes(more));
+        }
+        _ => {}
+    }
+    compared.compare("header", &image, random)
+}
+
+fn any_array(random: &mut Random) -> Array {
+    let any = random.between(3, 16) as usize;
+    Array {
+        members: random.pick(&[3, 5, 16, any]),
+        stripes: random.between(1, 8),
+        volume: random.next() as u8,
+    }
+}
+
+/// Stripes of all kinds; often the image is whole, else it is cut, goes on, or has another number of stripes in its header.
+fn any_stripes(compared: &mut Compared, random: &mut Random) -> Outcome<()> {
+    let array = any_array(random);
+    let mut image = any_image(&array, random);
+    match random.below(6) {
+        0 => image.truncate(random.below(image.len())),
+        1 => {
+            let more = 1 + random.below(600);
+            image.extend(random.bytes(more));
+        }
+        2 => {
+            let stripes = random.pick(&[1, 2, 9, 65_536, 65_537, 268_435_456]);
+            let other = Array { stripes, ..array };
+            image[..HEADER].copy_from_slice(&report::header(&other));
+        }
+        _ => {}
+    }
+    compared.compare("random", &image, random)
+}
+
+pub fn compare(random: &mut Random) -> Outcome<String> {
+    let mut compared = Compared::default();
+    compared.compare("empty", &[], random)?;
+    refused_headers(&mut compared, random)?;
+    for members in MEMBERS {
+        verdicts(members, &mut compared, random)?;
+        ends(members, &mut compared, random)?;
+    }
+    for _ in 0..HEADERS {
+        any_header(&mut compared, random)?;
+    }
+    for _ in 0..IMAGES {
+        any_stripes(&mut compared, random)?;
+    }
+    Ok(format!(
+        "{} alike, through a pipe in small writes: {}",
+        compared.images,
+        compared
+            .lines
+            .of("lines", "clean bad torn total 1 2 10 11")?
+    ))
+}

@@ -1,0 +1,110 @@
+//! An image and the report on it: a header, then the stripes one after the other.
+
+use super::Answer;
+use super::layout::Array;
+use super::stripe::{self, BLOCK, Verdict};
+
+pub const HEADER: usize = 9;
+
+/// The header of an image: how many bytes follow in it, the version, and the array's numbers.
+pub fn header(array: &Array) -> [u8; HEADER] {
+    let members = u8::try_from(array.members).expect("a header has one byte for the members");
+    let stripes = u32::try_from(array.stripes).expect("a header has four bytes for the stripes");
+    let [s0, s1, s2, s3] = stripes.to_be_bytes();
+    [0, 7, 1, members, array.volume, s0, s1, s2, s3]
+}
+
+/// The array that a header speaks of.
+fn array_in(header: &[u8]) -> Answer<Array> {
+    let [0, 7, 1, members, volume, s0, s1, s2, s3] = *header else {
+        return Err(10);
+    };
+    let array = Array {
+        members: usize::from(members),
+        stripes: u64::from(u32::from_be_bytes([s0, s1, s2, s3])),
+        volume,
+    };
+    array.fits().map(|()| array)
+}
+
+/// The lines of a report, in the order in which the stripes come.
+pub struct Report {
+    array: Array,
+    clean: u64,
+    bad: u64,
+    torn: u64,
+}
+
+impl Report {
+    /// The report on an array that fits.
+    pub fn open(array: Array) -> Self {
+        Report {
+            array,
+            clean: 0,
+            bad: 0,
+            torn: 0,
+        }
+    }
+
+    pub fn first_line(&self) -> String {
+        let Array {
+            members, stripes, ..
+        } = self.array;
+        format!("SCRUB v1 members {members} stripes {stripes}\n")
+    }
+
+    /// The line of the next stripe.
+    pub fn stripe_line(&mut self, bytes: &[u8]) -> String {
+        let stripe = self.clean + self.bad + self.torn;
+        match stripe::scrub(&self.array, stripe, bytes).expect("a whole stripe of the array") {
+            Verdict::Clean => {
+                self.clean += 1;
+                format!("{stripe} CLEAN\n")
+            }
+            Verdict::Bad { member, count } => {
+                self.bad += 1;
+                format!("{stripe} BAD {member} {count}\n")
+            }
+            Verdict::Torn { place } => {
+                self.torn += 1;
+                format!("{stripe} TORN {place}\n")
+            }
+        }
+    }
+
+    pub fn total_line(&self) -> String {
+        let Report {
+            array,
+            clean,
+            bad,
+            torn,
+        } = self;
+        let stripes = array.stripes;
+        format!("TOTAL {stripes} clean {clean} bad {bad} torn {torn}\n")
+    }
+}
+
+fn refused_line(number: u32) -> String {
+    format!("REFUSED {number}\n")
+}
+
+/// The whole report on an image.
+pub fn report(image: &[u8]) -> String {
+    let (header, body) = image.split_at(image.len().min(HEADER));
+    let array = match array_in(header) {
+        Ok(array) => array,
+        Err(number) => return refused_line(number),
+    };
+    let length = array.members * BLOCK;
+    let due = array.stripes as usize * length;
+    let mut report = Report::open(array);
+    let mut text = report.first_line();
+    for stripe in body[..body.len().min(due)].chunks_exact(length) {
+        text += &report.stripe_line(stripe);
+    }
+    text + &if body.len() == due {
+        report.total_line()
+    } else {
+        refused_line(11)
+    }
+}
