@@ -4,7 +4,7 @@ use libc::STDOUT_FILENO;
 use report::Report;
 use xor::least;
 ghost use mathlib.Core.Path.{_≡_};
-ghost use Prim.Native.Nat.{_≤_};
+ghost use Prim.Native.Nat.{_+_, _≤_, min};
 ghost use lib.ListN.{length};
 
 // A report's state, and how many bytes of the output buffer wait to be written.
@@ -13,9 +13,9 @@ struct Passed {
     waiting: usize,
 }
 
-// Writes what waits where less than a line's room is left, and answers how much then waits.
+// Writes what waits where less than a line's room is left, and answers how much then waits: a line fits behind it, in a buffer that can hold one.
 fn with_room(out: &[u8], waiting: usize) -> usize
-    ensures { λ r. ⌜ r ≤ length (now (out .entry)) ⌝ }
+    ensures { λ r. ⌜ r + min 128 (length (now (out .entry))) ≤ length (now (out .entry)) ⌝ }
 {
     if waiting <= out.len() {
         if out.len() - waiting >= 128 {
