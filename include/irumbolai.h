@@ -58,6 +58,26 @@ extern "C" {
 uint16_t irumbolai_guard(const uint8_t *bytes, size_t length);
 
 /*
+ * Guards from guards and lengths, without the bytes. These four refuse nothing, and take a number that is no run's
+ * guard through the same sums. A length is a number of bytes. They look at no byte and cost the same at any length:
+ * up to 32 multiplications, and one exclusive-or.
+ *
+ * A guard does not tell how long its run is: 65,535 zero bytes more at the end leave it as it was.
+ */
+
+/* The guard of two runs joined, `a` that of the first, `b` that of the second. At length 0 they are combined. */
+uint16_t irumbolai_join(uint16_t a, uint16_t b, uint32_t length_of_b);
+
+/* The guard of a run with `n` zero bytes after it. */
+uint16_t irumbolai_add_zeros(uint16_t guard, uint32_t n);
+
+/* The guard of a run before `n` zero bytes were added to it: what irumbolai_add_zeros gave, taken back. */
+uint16_t irumbolai_remove_zeros(uint16_t guard, uint32_t n);
+
+/* The guard of two equally long runs combined by exclusive-or. */
+uint16_t irumbolai_combine(uint16_t a, uint16_t b);
+
+/*
  * Where a block lies: its stripe, and the member of it.
  *
  *   refusals  1, 2, 3

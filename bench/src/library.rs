@@ -33,6 +33,7 @@ mod c {
     #[rustfmt::skip]
     unsafe extern "C" {
         pub fn irumbolai_guard(bytes: *const u8, length: usize) -> u16;
+        pub fn irumbolai_join(a: u16, b: u16, length_of_b: u32) -> u16;
         pub fn irumbolai_seal(members: usize, stripes: u64, volume: u8, stripe: u64, data: *const u8, data_length: usize, bytes: *mut u8, length: usize) -> u32;
         pub fn irumbolai_rebuild(members: usize, stripes: u64, volume: u8, stripe: u64, member: usize, bytes: *mut u8, length: usize) -> u32;
         pub fn irumbolai_scrub(members: usize, stripes: u64, volume: u8, stripe: u64, bytes: *const u8, length: usize) -> Answer;
@@ -47,6 +48,10 @@ mod c {
 
 pub fn guard(bytes: &[u8]) -> u16 {
     unsafe { c::irumbolai_guard(bytes.as_ptr(), bytes.len()) }
+}
+
+pub fn join(a: u16, b: u16, length_of_b: u32) -> u16 {
+    unsafe { c::irumbolai_join(a, b, length_of_b) }
 }
 
 /// Makes a stripe of its data. Gives the refusal.

@@ -1,5 +1,6 @@
 //! The speed of the library and of the report program beside their peers, as tables in markdown.
 
+mod joins;
 mod library;
 mod machine;
 mod peers;
@@ -30,6 +31,8 @@ fn measure(program: &Path) {
     machine::print();
     println!();
     jobs();
+    println!();
+    joins();
     let times = report::measure(program);
     println!();
     programs(&times);
@@ -87,6 +90,32 @@ fn jobs() {
     );
     println!();
     table.print(3);
+}
+
+fn joins() {
+    let mut table = Table::new(&[
+        "length of the second run",
+        "join",
+        "ordinary",
+        "ISA-L",
+        "memcpy",
+    ]);
+    let mut ground = joins::Ground::new();
+    ground.compare();
+    for length in joins::LENGTHS {
+        let words = [length.to_string()];
+        let times = ground.best(length).map(known);
+        table.row(words.into_iter().chain(times).collect());
+    }
+    let longest = [Some(joins::join(joins::LONGEST)), None, None, None];
+    let words = [joins::LONGEST.to_string()];
+    table.row(words.into_iter().chain(longest.map(known)).collect());
+    println!(
+        "A guard of two runs from their guards, beside the second run gone through again from memory, in ns, best of {} rounds:",
+        joins::ROUNDS
+    );
+    println!();
+    table.print(1);
 }
 
 fn programs(times: &report::Times) {

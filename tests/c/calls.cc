@@ -66,6 +66,11 @@ static void places()
     DUE(irumbolai_guard(&one, 1), 0x8BB7);
     DUE(irumbolai_guard(&one, 0), 0);
 
+    DUE(irumbolai_join(0x8BB7, 0x9CD9, 2), 0xE2BF);
+    DUE(irumbolai_add_zeros(1, 2), 0x8BB7);
+    DUE(irumbolai_remove_zeros(0x8BB7, 2), 1);
+    DUE(irumbolai_combine(0x8BB7, 0x9CD9), 0x176E);
+
     struct irumbolai_place place = irumbolai_place(16, 268435456, 7, 4026531839);
     DUE(place.refusal, 0);
     DUE(place.member, 14);

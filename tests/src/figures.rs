@@ -1,7 +1,8 @@
-//! The bench figures of paper 01, and the guards that SBC-3 publishes, run through the model alone.
+//! The bench figures of paper 01, the guards that SBC-3 publishes and worked joins, run through the model alone.
 
 use crate::random::Random;
 use model::guard::{go_on, guard};
+use model::join;
 use model::layout::{Array, Owner, Place};
 use model::report;
 use model::scan::History;
@@ -50,6 +51,29 @@ impl Figures {
             stripe::quick_scrub(&[9, 4, 8, 0xC]),
             Ok(9),
         )
+    }
+
+    fn joins(&mut self) -> Result<(), String> {
+        let mut record = [0; 3 * DATA];
+        for (block, last) in record.chunks_mut(DATA).zip(1..) {
+            block[DATA - 1] = last;
+        }
+        self.due("a record", guard(&record), 0xF42E)?;
+        for (pieces, length, due) in [
+            (record.chunks(DATA), DATA, 0xF42E),
+            (b"123456789".chunks(3), 3, 0xD0DB),
+        ] {
+            let joined = pieces.fold(0, |joined, piece| {
+                join::join(joined, guard(piece), length as u32)
+            });
+            self.due("pieces joined", joined, due)?;
+        }
+        self.due("x, once round", join::power(join::ROUND), 1)?;
+        for (zeros, due) in [(u32::MAX, 0xD0DB), (u32::MAX - 1, 0x7D23)] {
+            self.due("zeros added", join::add_zeros(0xD0DB, zeros), due)?;
+            self.due("and taken off", join::remove_zeros(due, zeros), 0xD0DB)?;
+        }
+        Ok(())
     }
 
     fn places(&mut self) -> Result<(), String> {
@@ -210,6 +234,7 @@ fn sealed() -> Vec<u8> {
 pub fn check(_: &mut Random) -> Result<String, String> {
     let mut figures = Figures { right: 0 };
     figures.guards()?;
+    figures.joins()?;
     figures.places()?;
     figures.sealed_stripe()?;
     figures.report()?;

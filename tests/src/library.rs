@@ -68,6 +68,10 @@ mod c {
     #[rustfmt::skip]
     unsafe extern "C" {
         pub fn irumbolai_guard(bytes: *const u8, length: usize) -> u16;
+        pub fn irumbolai_join(a: u16, b: u16, length_of_b: u32) -> u16;
+        pub fn irumbolai_add_zeros(guard: u16, n: u32) -> u16;
+        pub fn irumbolai_remove_zeros(guard: u16, n: u32) -> u16;
+        pub fn irumbolai_combine(a: u16, b: u16) -> u16;
         pub fn irumbolai_place(members: usize, stripes: u64, volume: u8, block: u64) -> Place;
         pub fn irumbolai_owner(members: usize, stripes: u64, volume: u8, stripe: u64, member: usize) -> Owner;
         pub fn irumbolai_check(members: usize, stripes: u64, volume: u8, stripe: u64, member: usize, block: *const u8, length: usize) -> Check;
@@ -93,6 +97,22 @@ pub fn guard(bytes: &Lent<u8>) -> u16 {
 /// An array's numbers, in the order in which every call takes them.
 fn numbers(array: &Array) -> (usize, u64, u8) {
     (array.members, array.stripes, array.volume)
+}
+
+pub fn join(a: u16, b: u16, length_of_b: u32) -> u16 {
+    unsafe { c::irumbolai_join(a, b, length_of_b) }
+}
+
+pub fn add_zeros(guard: u16, n: u32) -> u16 {
+    unsafe { c::irumbolai_add_zeros(guard, n) }
+}
+
+pub fn remove_zeros(guard: u16, n: u32) -> u16 {
+    unsafe { c::irumbolai_remove_zeros(guard, n) }
+}
+
+pub fn combine(a: u16, b: u16) -> u16 {
+    unsafe { c::irumbolai_combine(a, b) }
 }
 
 pub fn place(array: &Array, block: u64) -> Place {

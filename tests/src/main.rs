@@ -18,6 +18,7 @@ type Comparison = fn(&mut Random) -> Result<String, String>;
 const PARTS: &[(&str, Comparison)] = &[
     ("figures", figures::check),
     ("guard", compare::guard::compare),
+    ("join", compare::join::compare),
     ("layout", compare::layout::compare),
     ("tag", compare::tag::compare),
     ("stripe", compare::stripe::compare),

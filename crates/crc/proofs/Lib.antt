@@ -4,3 +4,8 @@ pub mod Noticed
 pub mod Sharp
 pub mod Division
 pub mod Unique
+pub mod Products
+pub mod Scaling
+pub mod Factors
+pub mod GuardsJoined
+pub mod Multiplied

@@ -1,3 +1,5 @@
 pub mod Crc
 pub mod Polynomial
 pub mod Guard
+pub mod Remainders
+pub mod Joins

@@ -1,4 +1,10 @@
 // The guard of the T10 protection field: CRC-16, one bit at a time.
+mod joining;
+
+pub use joining::add_zeros;
+pub use joining::combine;
+pub use joining::join;
+pub use joining::remove_zeros;
 ghost use mathlib.Core.Path.{_≡_};
 ghost use mathlib.Core.List.{[], _∷_};
 ghost use Prim.Native.Nat.{_<_};

@@ -1,5 +1,6 @@
 // Runs the bench table and the published vectors through the compiled code, and prints what it finds.
 mod guards;
+mod joins;
 mod places;
 mod scans;
 mod stripes;
@@ -12,4 +13,6 @@ fn main() {
     stripes::sealed();
     stripes::torn();
     scans::pieces();
+    joins::record();
+    joins::zeros();
 }

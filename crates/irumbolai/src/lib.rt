@@ -1,4 +1,5 @@
 // The C library: each call of include/irumbolai.h. A slice is a pointer and a length to C.
+mod joins;
 mod places;
 mod scans;
 mod scrubs;

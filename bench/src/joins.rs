@@ -1,0 +1,102 @@
+//! A join of two guards, beside what it spares: going through the second run again, which comes from memory.
+
+use crate::library;
+use crate::peers::{Isal, Ordinary, Peer};
+use crate::rows::CONTESTANTS;
+use crate::stripes::Random;
+use crate::timing::{is_here, keep, nanoseconds};
+use std::hint::black_box;
+use std::time::Instant;
+
+pub const ROUNDS: usize = 30;
+
+/// The lengths of the second run. Each bit of a length that is one costs a multiplication.
+pub const LENGTHS: [usize; 3] = [512, 1 << 20, (1 << 24) - 1];
+
+/// The longest length there is, which no peer goes through here.
+pub const LONGEST: u32 = u32::MAX;
+
+/// The runs lie in so many bytes, and each turn takes the next.
+const MEMORY: usize = 256 << 20;
+
+/// A turn joins so many times, each when the join before is known.
+const JOINS: usize = 10_000;
+
+pub struct Ground {
+    bytes: Vec<u8>,
+    copy: Vec<u8>,
+    next: usize,
+}
+
+impl Ground {
+    pub fn new() -> Self {
+        let mut bytes = vec![0; MEMORY];
+        Random::new().fill(&mut bytes);
+        let longest = LENGTHS.iter().max().expect("there are lengths");
+        Ground {
+            bytes,
+            copy: vec![1; *longest],
+            next: 0,
+        }
+    }
+
+    /// The next run of a length, and where its copy goes.
+    fn run(&mut self, length: usize) -> (&[u8], &mut [u8]) {
+        if self.next + length > MEMORY {
+            self.next = 0;
+        }
+        let run = &self.bytes[self.next..self.next + length];
+        self.next += length.max(1 << 20);
+        (black_box(run), &mut self.copy[..length])
+    }
+
+    /// The best time of a join with a run of a length, and of each peer that goes through the run; in nanoseconds.
+    pub fn best(&mut self, length: usize) -> [Option<f64>; CONTESTANTS] {
+        let mut best = [None; CONTESTANTS];
+        best[0] = Some(join(length as u32));
+        let peers: [fn(&[u8], &mut [u8]) -> u16; CONTESTANTS - 1] = [
+            |run, _| Ordinary::go_on(0x8BB7, run),
+            |run, _| Isal::go_on(0x8BB7, run),
+            |run, copy| {
+                copy.copy_from_slice(run);
+                0
+            },
+        ];
+        for _ in 0..ROUNDS {
+            for (who, peer) in (1..).zip(peers).filter(|(who, _)| is_here(*who)) {
+                let (run, copy) = self.run(length);
+                let start = Instant::now();
+                black_box(peer(run, copy));
+                keep(&mut best[who], nanoseconds(start.elapsed()));
+            }
+        }
+        best
+    }
+
+    /// Each peer, from the first run's guard through the second run, gives what the join gives.
+    pub fn compare(&mut self) {
+        for length in LENGTHS {
+            let (run, _) = self.run(length);
+            let due = library::join(0x8BB7, library::guard(run), length as u32);
+            assert_eq!(Ordinary::go_on(0x8BB7, run), due, "a join, ordinary");
+            if is_here(crate::rows::ISAL) {
+                assert_eq!(Isal::go_on(0x8BB7, run), due, "a join, ISA-L");
+            }
+        }
+    }
+}
+
+/// The best time of a join at a length, in nanoseconds.
+pub fn join(length: u32) -> f64 {
+    let mut best = None;
+    for _ in 0..ROUNDS {
+        let start = Instant::now();
+        let mut last = black_box(0x8BB7);
+        for _ in 0..JOINS {
+            last = library::join(last, 0x1234, length);
+        }
+        black_box(last);
+        keep(&mut best, nanoseconds(start.elapsed()) / JOINS as f64);
+    }
+    best.expect("there are rounds")
+}

@@ -1,0 +1,45 @@
+// Guards joined from guards and lengths.
+use crate::text::four_digits;
+use libc::STDOUT_FILENO;
+
+// A record of three blocks, zero but for their last bytes 01, 02 and 03: joined from the blocks' guards, and from all its bytes.
+pub fn record() {
+    let mut content = [0u8; 1536];
+    content[511] = 1;
+    content[1023] = 2;
+    content[1535] = 3;
+    let first = crc::guard(&content[0..512]);
+    let second = crc::guard(&content[512..1024]);
+    let third = crc::guard(&content[1024..1536]);
+    let two = crc::join(first, second, 512);
+    io::write_all(STDOUT_FILENO, b"\nguard of a record's          is\n");
+    row(b"block that ends 01           ", first);
+    row(b"block that ends 02           ", second);
+    row(b"block that ends 03           ", third);
+    row(b"first two blocks, joined     ", two);
+    row(b"three blocks, joined         ", crc::join(two, third, 512));
+    row(b"1536 bytes                   ", crc::guard(&content));
+}
+
+// As many zero bytes as there can be, and one fewer, after a run whose guard is D0DB.
+pub fn zeros() {
+    added(b"D0DB, 4294967295 zeros added ", 4294967295);
+    added(b"D0DB, 4294967294 zeros added ", 4294967294);
+}
+
+// Two lines: the guard with the zeros added, and with as many taken off again.
+fn added(given: &[u8], zeros: u32) {
+    let longer = crc::add_zeros(0xD0DB, zeros);
+    row(given, longer);
+    row(
+        b"and taken off again          ",
+        crc::remove_zeros(longer, zeros),
+    );
+}
+
+fn row(given: &[u8], guard: u16) {
+    io::write_all(STDOUT_FILENO, given);
+    let found = four_digits(guard);
+    io::write_all(STDOUT_FILENO, &found);
+    io::write_all(STDOUT_FILENO, b"\n");
+}
