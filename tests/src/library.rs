@@ -94,6 +94,11 @@ pub fn guard(bytes: &Lent<u8>) -> u16 {
     unsafe { c::irumbolai_guard(bytes.pointer(), bytes.length()) }
 }
 
+/// The guard of bytes where they lie.
+pub fn guard_at(bytes: &[u8]) -> u16 {
+    unsafe { c::irumbolai_guard(bytes.as_ptr(), bytes.len()) }
+}
+
 /// An array's numbers, in the order in which every call takes them.
 fn numbers(array: &Array) -> (usize, u64, u8) {
     (array.members, array.stripes, array.volume)

@@ -1,5 +1,13 @@
 pub mod Joined
+pub mod Strides
 pub mod Linear
+pub mod Shifted
+pub mod Entries
+pub mod Taken
+pub mod Buffers
+pub mod Multiples
+pub mod Carrying
+pub mod Puts
 pub mod Noticed
 pub mod Sharp
 pub mod Division

@@ -3,3 +3,7 @@ pub mod Polynomial
 pub mod Guard
 pub mod Remainders
 pub mod Joins
+pub mod Blocks
+pub mod Tables
+pub mod Folds
+pub mod Eights

@@ -17,5 +17,7 @@ pub mod Injective
 pub mod Verdicts
 pub mod Scrubs
 pub mod Quick
+pub mod Greatest
+pub mod Guards
 pub mod Torn
 pub mod Clean

@@ -25,14 +25,10 @@ use Rattle.stripe.specs.Tables.{table}
 use Rattle.stripe.specs.Stripes.{stripeLength, blockOf, memberData, othersData}
 use Rattle.stripe.specs.Formats.{t10, dataIn, tagIn, summaryOf}
 use Rattle.stripe.specs.Verdicts.{count, lowest, nonzero, judgedBy, judged, badMembers, tornPlaces, scrubBlocks, badBlocks, scrubRefusal, scrubNumbers}
-use Rattle.stripe.proofs.Tables.{length-table, getD-table, table-ext, others-past}
+use Rattle.stripe.proofs.Tables.{length-table, getD-table, table-ext, map-table, others-past}
 use Rattle.stripe.proofs.Verdicts.{judgement, FirstFailing, FirstNonzero, judged-refused, none-bad, none-failing, clean-exactly, bad-exactly, torn-exactly}
 
 module _ {A B : Type 0} where
-  map-table : (f : A → B) (n : ℕ) (g : ℕ → A) → map f (table n g) ≡ table n (λ i. f (g i))
-  map-table f zero g = refl
-  map-table f (suc n) g = ap (λ (l : List B). f (g 0) ∷ l) (map-table f n (λ i. g (suc i)))
-
   getD-map : (f : A → B) (l : List A) (i : ℕ) (d : B) (e : A) → i < length l → getD (map f l) i d ≡ f (getD l i e)
   getD-map f [] i d e h = absurd (not-suc-le-zero h)
   getD-map f (x ∷ l) zero d e h = refl

@@ -15,6 +15,8 @@ use lib.ListN.{length, getD, take, drop}
 use lib.Seq.{length-sets}
 use Rattle.xor.specs.Xors.{combination}
 use Rattle.xor.proofs.Combination.{length-combination}
+use Rattle.crc.specs.Guard.{guard}
+use Rattle.crc.specs.Blocks.{guardsOf}
 use Rattle.layout.specs.Answers.{refuse, after}
 use Rattle.layout.specs.Arrays.{dataMembers, stripeRefusal}
 use Rattle.layout.specs.Places.{parityMember, memberAt, indexAt, isParity, ownerRefusal}
@@ -28,8 +30,10 @@ use Rattle.tag.proofs.Tagged.{length-tagged, data-of-tagged}
 use Rattle.stripe.specs.Tables.{table, others, joined, part, span}
 use Rattle.stripe.specs.Stripes.{stripeLength, blockOf, memberData, othersData}
 use Rattle.stripe.specs.Jobs.{withBlock, dataBlock, dataWritten, parityOf, sealedData, sealed, sealRefusal, sealBytes}
+use Rattle.stripe.specs.Verdicts.{combinedGuards}
 use Rattle.stripe.proofs.Tables.{table-ext}
 use Rattle.stripe.proofs.Rows.{length-span, length-othersData}
+use Rattle.stripe.proofs.Guards.{parts-guard}
 use Rattle.stripe.proofs.Blocks.{block-written, block-kept, span-joined, length-joined, same-blocks}
 
 -- ---- all members but the parity's, by data index
@@ -165,6 +169,15 @@ module _ (a : Array) (stripe : ℕ) (content : List ℕ) (sound : SoundStripe a 
 
     pub parity-of-written : othersData (a .members) (parityMember a stripe) (dataWritten a stripe content old) ≡ parityOf a content
     parity-of-written = parity-by-data (dataWritten a stripe content old) data-of-written
+
+    -- its guard, as the calls name what they got
+    pub parity-guard : (p all : ℕ) (written made guards : List ℕ) → p ≡ parityMember a stripe → written ≡ dataWritten a stripe content old
+        → made ≡ othersData (a .members) p written → guards ≡ guardsOf 16 512 content → all ≡ combinedGuards (take (dataMembers a - 0) guards) → all ≡ guard made
+    parity-guard p all written made guards ep ew em eg ea =
+        let whole : dataMembers a - 0 ≡ dataMembers a = omega arith in
+        ea ∙ ap₂ (λ (k : ℕ) (l : List ℕ). combinedGuards (take k l)) whole eg
+        ∙ parts-guard content (dataMembers a) (omega (arith, sound .array .many)) (omega arith)
+        ∙ ap guard (sym (em ∙ ap₂ (othersData (a .members)) ep ew ∙ parity-of-written))
 
     -- ---- the whole
 

@@ -20,9 +20,13 @@ ghost use lib.Seq.{sets};
 ghost use Rattle.stripe.specs.Tables.{span};
 ghost use Rattle.layout.specs.Arrays.{stripeRefusal};
 ghost use Rattle.layout.specs.Places.{ownerRefusal};
+ghost use Rattle.crc.specs.Guard.{guard};
+ghost use Rattle.crc.specs.Blocks.{guardsOf};
+ghost use Rattle.tag.specs.Blocks.{dataOf};
 ghost use Rattle.tag.specs.Tags.{good, tagged};
 ghost use Rattle.stripe.specs.Stripes.{stripeLength, blockOf, saysGood, goodMembers, othersGood, othersData};
 ghost use Rattle.stripe.specs.Jobs.{withBlock};
+ghost use Rattle.stripe.specs.Verdicts.{combinedGuards};
 use layout::Array;
 use tag::BLOCK;
 use tag::Checked;
@@ -138,28 +142,49 @@ fn is_good(array: Array, stripe: u64, bytes: &[u8], member: usize) -> bool
     says_good(tag::check(array, stripe, member, &bytes[from..end]))
 }
 
-// Whether a member is good, or is the one left out.
-fn passes(array: Array, stripe: u64, bytes: &[u8], skip: usize, member: usize) -> bool
+// The same, by the guard of the block's data.
+fn is_good_by(array: Array, stripe: u64, bytes: &[u8], member: usize, data_guard: u16) -> bool
     requires { ⌜ ownerRefusal array stripe member ≡ 0 ⌝ }
     requires { ⌜ 520 * member + 520 ≤ length (now bytes) ⌝ }
+    requires { ⌜ data_guard ≡ guard (dataOf (blockOf (now bytes) member)) ⌝ }
+    ensures { λ r. ⌜ r ≡ good array stripe member (blockOf (now (bytes .entry)) member) ⌝ }
+{
+    let at = BLOCK * member + DATA;
+    let expected = tag::due(array, stripe, member, data_guard);
+    tag::is_due(tag::found(tag::tag_within(bytes, at)), expected)
+}
+
+// Whether a member with this guard of its data is good, or is the one left out.
+fn passes(
+    array: Array,
+    stripe: u64,
+    bytes: &[u8],
+    skip: usize,
+    member: usize,
+    data_guard: u16,
+) -> bool
+    requires { ⌜ ownerRefusal array stripe member ≡ 0 ⌝ }
+    requires { ⌜ 520 * member + 520 ≤ length (now bytes) ⌝ }
+    requires { ⌜ data_guard ≡ guard (dataOf (blockOf (now bytes) member)) ⌝ }
     ensures { λ r. ⌜ r ≡ getD (set (goodMembers array stripe (now (bytes .entry))) skip true) member true ⌝ }
 {
     if member == skip {
         return true;
     }
-    is_good(array, stripe, bytes, member)
+    is_good_by(array, stripe, bytes, member, data_guard)
 }
 
-// Whether every member but `skip` is good.
-fn others_good(array: Array, stripe: u64, bytes: &[u8], skip: usize) -> bool
+// Whether every member but `skip` is good, by the guards of the members' data.
+fn others_good(array: Array, stripe: u64, bytes: &[u8], skip: usize, guards: [u16; 16]) -> bool
     requires { ⌜ stripeRefusal array stripe ≡ 0 ⌝ }
     requires { ⌜ length (now bytes) ≡ stripeLength array ⌝ }
+    requires { ⌜ guards ≡ guardsOf 16 520 (now bytes) ⌝ }
     ensures { λ r. ⌜ r ≡ othersGood array stripe skip (now (bytes .entry)) ⌝ }
 {
     let members = array.members;
     let mut member: usize = 0;
     while member < members {
-        if !passes(array, stripe, bytes, skip, member) {
+        if !passes(array, stripe, bytes, skip, member, guards[member]) {
             return false;
         }
         member += 1;
@@ -167,15 +192,36 @@ fn others_good(array: Array, stripe: u64, bytes: &[u8], skip: usize) -> bool
     true
 }
 
-// Writes a block at its place: the data, and the tag due to them there.
-fn write_block(array: Array, stripe: u64, member: usize, content: &[u8], bytes: &mut [u8])
+// The exclusive-or of guards.
+fn combined_guards(guards: &[u16]) -> u16
+    ensures { λ r. ⌜ r ≡ combinedGuards (now (guards .entry)) ⌝ }
+{
+    let mut combined: u16 = 0;
+    let mut next: usize = 0;
+    while next < guards.len() {
+        combined = combined ^ guards[next];
+        next += 1;
+    }
+    combined
+}
+
+// Writes a block at its place: the data, and the tag due there by the data's guard.
+fn write_block(
+    array: Array,
+    stripe: u64,
+    member: usize,
+    content: &[u8],
+    data_guard: u16,
+    bytes: &mut [u8],
+)
     requires { ⌜ ownerRefusal array stripe member ≡ 0 ⌝ }
     requires { ⌜ length (now content) ≡ 512 ⌝ }
     requires { ⌜ 520 * member + 520 ≤ length (now bytes) ⌝ }
+    requires { ⌜ data_guard ≡ guard (now content) ⌝ }
     ensures { λ _. ⌜ now (bytes .exit) ≡ withBlock (now (bytes .entry)) member (tagged array stripe member (now (content .entry))) ⌝ }
 {
     let from = BLOCK * member;
-    let tag = tag::tag_bytes(tag::due(array, stripe, member, crc::guard(content)));
+    let tag = tag::tag_bytes(tag::due(array, stripe, member, data_guard));
     put(bytes, from, content);
     put(bytes, from + DATA, &tag);
 }

@@ -2,15 +2,18 @@
 ghost use mathlib.Core.Path.{_≡_};
 ghost use Prim.Native.Nat.{_+_, _*_, _≤_};
 ghost use lib.ListN.{length};
+ghost use Rattle.crc.specs.Blocks.{guardsOf};
 ghost use Rattle.stripe.specs.Jobs.{rebuildRefusal, rebuildBytes};
 use crate::combined;
+use crate::combined_guards;
 use crate::others_good;
 use crate::write_block;
 use layout::Array;
 use tag::BLOCK;
 
-// The refusal number of a rebuild: the place's own, the stripe's length, then whether every other member is good.
-fn rebuild_refusal(array: Array, stripe: u64, member: usize, bytes: &[u8]) -> u8
+// The refusal number of a rebuild: the place's own, the stripe's length, then whether every other member is good by its guard.
+fn rebuild_refusal(array: Array, stripe: u64, member: usize, bytes: &[u8], guards: [u16; 16]) -> u8
+    requires { ⌜ guards ≡ guardsOf 16 520 (now bytes) ⌝ }
     ensures { λ r. ⌜ r ≡ rebuildRefusal array stripe member (now (bytes .entry)) ⌝ }
 {
     let refusal = layout::owner_refusal(array, stripe, member);
@@ -21,22 +24,26 @@ fn rebuild_refusal(array: Array, stripe: u64, member: usize, bytes: &[u8]) -> u8
     if bytes.len() != BLOCK * members {
         return 6;
     }
-    if !others_good(array, stripe, bytes, member) {
+    if !others_good(array, stripe, bytes, member, guards) {
         return 9;
     }
     0
 }
 
-// Rebuilds a member's block in place: the exclusive-or of the other members' data, with the tag due there.
+// Rebuilds a member's block in place: the exclusive-or of the other members' data, with the tag due there. The guard of those data is
+// the exclusive-or of the other members' guards.
 pub fn rebuild(array: Array, stripe: u64, member: usize, bytes: &mut [u8]) -> u8
     ensures { λ r. ⌜ r ≡ rebuildRefusal array stripe member (now (bytes .entry)) ⌝ }
     ensures { λ _. ⌜ now (bytes .exit) ≡ rebuildBytes array stripe member (now (bytes .entry)) ⌝ }
 {
-    let refusal = rebuild_refusal(array, stripe, member, bytes);
+    let guards = crc::guards(bytes, BLOCK);
+    let refusal = rebuild_refusal(array, stripe, member, bytes, guards);
     if refusal != 0 {
         return refusal;
     }
-    let content = combined(bytes, array.members, member);
-    write_block(array, stripe, member, &content, bytes);
+    let members = array.members;
+    let content = combined(bytes, members, member);
+    let data_guard = combined_guards(&guards[0..members]) ^ guards[member];
+    write_block(array, stripe, member, &content, data_guard, bytes);
     0
 }

@@ -5,6 +5,8 @@ use crate::Verdict;
 use layout::Array;
 use tag::BLOCK;
 ghost use mathlib.Core.Path.{_≡_};
+ghost use Prim.Native.Nat.{max};
+ghost use lib.Dec.{eqb};
 ghost use lib.ListN.{length};
 ghost use Rattle.stripe.specs.Verdicts.{
   count,
@@ -16,7 +18,6 @@ ghost use Rattle.stripe.specs.Verdicts.{
   scrubRefusal,
   scrubNumbers,
   scrubbedNumbers,
-  combinedGuards,
   quickRefusal,
   quickNumbers,
   comparedNumbers,
@@ -34,12 +35,13 @@ fn bad_members(array: Array, stripe: u64, bytes: &[u8]) -> BadMembers
     ensures { λ r. ⌜ r .lowest ≡ lowest (badBlocks array stripe (now (bytes .entry))) ⌝ }
     ensures { λ r. ⌜ r .count ≡ count (badBlocks array stripe (now (bytes .entry))) ⌝ }
 {
+    let guards = crc::guards(bytes, BLOCK);
     let mut lowest = array.members;
     let mut count: usize = 0;
     let mut member = array.members;
     while 0 < member {
         member -= 1;
-        if !crate::is_good(array, stripe, bytes, member) {
+        if !crate::is_good_by(array, stripe, bytes, member, guards[member]) {
             lowest = member;
             count += 1;
         }
@@ -47,10 +49,33 @@ fn bad_members(array: Array, stripe: u64, bytes: &[u8]) -> BadMembers
     BadMembers { lowest, count }
 }
 
+// The greater of two bytes.
+fn most(a: u8, b: u8) -> u8
+    ensures { λ r. ⌜ r ≡ max a b ⌝ }
+{
+    if a < b { b } else { a }
+}
+
+// Whether no byte differs from zero: the greatest does not.
+fn all_zero(bytes: &[u8]) -> bool
+    ensures { λ r. ⌜ r ≡ eqb (count (nonzero (now (bytes .entry)))) 0 ⌝ }
+{
+    let mut greatest: u8 = 0;
+    let mut i: usize = 0;
+    while i < bytes.len() {
+        greatest = most(greatest, bytes[i]);
+        i += 1;
+    }
+    greatest == 0
+}
+
 // The first place that is not zero, or the length where there is none.
 fn first_nonzero(bytes: &[u8]) -> usize
     ensures { λ r. ⌜ r ≡ lowest (nonzero (now (bytes .entry))) ⌝ }
 {
+    if all_zero(bytes) {
+        return bytes.len();
+    }
     let mut place: usize = 0;
     while place < bytes.len() {
         if bytes[place] != 0 {
@@ -108,19 +133,6 @@ pub fn scrub(array: Array, stripe: u64, bytes: &[u8]) -> Scrubbed
     Scrubbed::Found(verdict)
 }
 
-// The exclusive-or of guards.
-fn combined_guards(guards: &[u16]) -> u16
-    ensures { λ r. ⌜ r ≡ combinedGuards (now (guards .entry)) ⌝ }
-{
-    let mut combined: u16 = 0;
-    let mut i: usize = 0;
-    while i < guards.len() {
-        combined = combined ^ guards[i];
-        i += 1;
-    }
-    combined
-}
-
 // The refusal number of so many guards.
 fn quick_refusal(guards: usize) -> u8
     ensures { λ r. ⌜ r ≡ quickRefusal guards ⌝ }
@@ -142,7 +154,7 @@ pub fn quick_scrub(guards: &[u16]) -> Compared
     if refusal != 0 {
         return Compared::Refused(refusal);
     }
-    let combination = combined_guards(guards);
+    let combination = crate::combined_guards(guards);
     if combination == 0 {
         return Compared::Fits;
     }

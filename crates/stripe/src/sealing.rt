@@ -3,11 +3,13 @@ ghost use mathlib.Core.Path.{_≡_};
 ghost use Prim.Native.Nat.{_+_, _*_, _≤_};
 ghost use lib.ListN.{length};
 ghost use mathlib.Core.Bool.{cond};
+ghost use Rattle.crc.specs.Blocks.{guardsOf};
 ghost use Rattle.layout.specs.Arrays.{dataMembers, stripeRefusal};
 ghost use Rattle.layout.specs.Places.{ownerRefusal, isParity};
 ghost use Rattle.stripe.specs.Stripes.{stripeLength};
 ghost use Rattle.stripe.specs.Jobs.{withBlock, dataBlock, dataWritten, sealRefusal, sealBytes};
 use crate::combined;
+use crate::combined_guards;
 use crate::write_block;
 use layout::Array;
 use tag::BLOCK;
@@ -32,10 +34,18 @@ fn seal_refusal(array: Array, stripe: u64, content: usize, length: usize) -> u8
 }
 
 // Writes a member's block from its part of the data, and leaves the parity member's alone.
-fn write_member(array: Array, stripe: u64, member: usize, content: &[u8], bytes: &mut [u8])
+fn write_member(
+    array: Array,
+    stripe: u64,
+    member: usize,
+    content: &[u8],
+    guards: [u16; 16],
+    bytes: &mut [u8],
+)
     requires { ⌜ ownerRefusal array stripe member ≡ 0 ⌝ }
     requires { ⌜ length (now content) ≡ 512 * dataMembers array ⌝ }
     requires { ⌜ length (now bytes) ≡ stripeLength array ⌝ }
+    requires { ⌜ guards ≡ guardsOf 16 512 (now content) ⌝ }
     ensures { λ _. ⌜ now (bytes .exit) ≡ cond (isParity array stripe member) (now (bytes .entry)) (withBlock (now (bytes .entry)) member (dataBlock array stripe (now (content .entry)) member)) ⌝ }
 {
     if member == layout::parity_member(array, stripe) {
@@ -44,25 +54,34 @@ fn write_member(array: Array, stripe: u64, member: usize, content: &[u8], bytes:
     let index = layout::index_at(array, stripe, member);
     let from = DATA * index;
     let end = from + DATA;
-    write_block(array, stripe, member, &content[from..end], bytes);
+    write_block(
+        array,
+        stripe,
+        member,
+        &content[from..end],
+        guards[index],
+        bytes,
+    );
 }
 
-// Writes the blocks of all data members.
-fn write_data(array: Array, stripe: u64, content: &[u8], bytes: &mut [u8])
+// Writes the blocks of all data members, by the guards of the parts of the data.
+fn write_data(array: Array, stripe: u64, content: &[u8], guards: [u16; 16], bytes: &mut [u8])
     requires { ⌜ stripeRefusal array stripe ≡ 0 ⌝ }
     requires { ⌜ length (now content) ≡ 512 * dataMembers array ⌝ }
     requires { ⌜ length (now bytes) ≡ stripeLength array ⌝ }
+    requires { ⌜ guards ≡ guardsOf 16 512 (now content) ⌝ }
     ensures { λ _. ⌜ now (bytes .exit) ≡ dataWritten array stripe (now (content .entry)) (now (bytes .entry)) ⌝ }
 {
     let members = array.members;
     let mut member: usize = 0;
     while member < members {
-        write_member(array, stripe, member, content, bytes);
+        write_member(array, stripe, member, content, guards, bytes);
         member += 1;
     }
 }
 
-// Writes every byte of a stripe: the data members' blocks, then the parity made from them.
+// Writes every byte of a stripe: the data members' blocks, then the parity made from them. The guard of the parity's data is the
+// exclusive-or of the data members' guards.
 pub fn seal(array: Array, stripe: u64, content: &[u8], bytes: &mut [u8]) -> u8
     ensures { λ r. ⌜ r ≡ sealRefusal array stripe (length (now (content .entry))) (length (now (bytes .entry))) ⌝ }
     ensures { λ _. ⌜ now (bytes .exit) ≡ sealBytes array stripe (now (content .entry)) (now (bytes .entry)) ⌝ }
@@ -71,10 +90,12 @@ pub fn seal(array: Array, stripe: u64, content: &[u8], bytes: &mut [u8]) -> u8
     if refusal != 0 {
         return refusal;
     }
-    write_data(array, stripe, content, bytes);
+    let guards = crc::guards(content, DATA);
+    write_data(array, stripe, content, guards, bytes);
     let members = array.members;
     let parity = layout::parity_member(array, stripe);
     let combined = combined(bytes, members, parity);
-    write_block(array, stripe, parity, &combined, bytes);
+    let data_guard = combined_guards(&guards[0..members - 1]);
+    write_block(array, stripe, parity, &combined, data_guard, bytes);
     0
 }

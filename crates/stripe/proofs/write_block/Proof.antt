@@ -8,9 +8,6 @@ use Rattle.stripe.proofs.write_block.Tie as tie
 mul-from : tie.Need-mul-from
 mul-from c = search needs
 
-guard-requires : tie.Need-guard-requires
-guard-requires c κs = search needs
-
 due-requires : tie.Need-due-requires
 due-requires c κs = search needs
 
@@ -38,18 +35,16 @@ returns c =
     let first = second .before .before .before .before .before in
     let tag = first .before .before in
     let due = tag .before in
-    let guard = due .before in
-    let s = guard .before .before .before in
+    let s = due .before .before .before in
     let a = s .args in
-    block-in-two (a .array) (a .stripe) (a .member) (guard .guard .result) (due .due .result) (a .bytes .now) (first .put .last .0) (second .put2 .last .0) (a .content .now)
-    (tag .tag-bytes .result) (s .pre .0) (s .pre .1 .0) (guard .guard .ensures) (due .due .ensures) (tag .tag-bytes .ensures) (first .put .ensures) (second .put2 .ensures)
+    block-in-two (a .array) (a .stripe) (a .member) (a .data-guard) (due .due .result) (a .bytes .now) (first .put .last .0) (second .put2 .last .0) (a .content .now)
+    (tag .tag-bytes .result) (s .pre .0) (s .pre .1 .0) (s .pre .1 .1 .1) (due .due .ensures) (tag .tag-bytes .ensures) (first .put .ensures) (second .put2 .ensures)
 
 pub write-block-spec : {M : Type 1} → statement M
 write-block-spec =
     tie.close
     (tie.spec
     mul-from
-    guard-requires
     due-requires
     tag-bytes-requires
     put-requires

@@ -35,7 +35,7 @@ others-good-requires c κs =
     let k = c .before .before in
     let a = k .before .before .args in
     let place = place-sound (a .array) (a .stripe) (a .member) (sym (k .owner-refusal .ensures) ∙ c .before .if1 .left) in
-    (sound-stripe (a .array) (a .stripe) (place .stripe), c .if2 .left)
+    (sound-stripe (a .array) (a .stripe) (place .stripe), (c .if2 .left, k .before .before .pre))
 
 returns-3 : tie.Need-returns-3
 returns-3 c =

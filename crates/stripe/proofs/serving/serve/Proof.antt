@@ -65,13 +65,18 @@ returns-3 c =
     serve-stored (a .array) (a .stripe) (a .member) (a .bytes .now) (a .out .now) (l .if1 .left) (o .if2 .left) (p .put .last .0) (sym (g .is-good .ensures) ∙ t .if3 .taken)
     (filled-with-data (a .member) (a .bytes .now) (a .out .now) (p .put .last .0) within (o .if2 .left) (p .put .ensures))
 
+guards-requires : tie.Need-guards-requires
+guards-requires c κs = search needs
+
 others-good-requires : tie.Need-others-good-requires
-others-good-requires c κs = (sound-stripe _ _ (place-sound _ _ _ (c .before .before .before .before .before .before .pre) .stripe), c .before .before .before .if1 .left)
+others-good-requires c κs =
+    let t = c .before in
+    (sound-stripe _ _ (place-sound _ _ _ (t .before .before .before .before .before .before .pre) .stripe), (t .before .before .before .if1 .left, c .guards .ensures))
 
 returns-4 : tie.Need-returns-4
 returns-4 c =
     let n = c .before in
-    let t = n .before in
+    let t = n .before .before in
     let g = t .before in
     let o = g .before in
     let l = o .before in
@@ -96,7 +101,7 @@ returns-5 c =
     let p = c .before .before in
     let m = p .before .before .before in
     let n = m .before .before in
-    let t = n .before in
+    let t = n .before .before in
     let g = t .before in
     let o = g .before in
     let l = o .before in
@@ -123,6 +128,7 @@ serve-spec =
     put-requires
     same-length
     returns-3
+    guards-requires
     others-good-requires
     returns-4
     combined-requires

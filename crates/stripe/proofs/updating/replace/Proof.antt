@@ -34,32 +34,44 @@ moved-parity-requires c κs =
     let h = inside (a .array) (a .stripe) (a .member) (length (a .content .now)) (a .bytes .now) (s .pre) (sym (r .replace-refusal .ensures) ∙ z .if1 .left) in
     (omega (arith, p .parity-member .ensures), h .own)
 
+guard-requires : tie.Need-guard-requires
+guard-requires c κs = search needs
+
 write-block-requires : tie.Need-write-block-requires
 write-block-requires c κs =
-    let p = c .before .before .before in
+    let g = c .before in
+    let p = g .before .before .before in
     let z = p .before in
     let r = z .before in
     let s = r .before .before .before .before in
     let a = s .args in
     let h = inside (a .array) (a .stripe) (a .member) (length (a .content .now)) (a .bytes .now) (s .pre) (sym (r .replace-refusal .ensures) ∙ z .if1 .left) in
-    (s .pre, (h .size, h .own))
+    (s .pre, (h .size, (h .own, g .guard .ensures)))
 
 slice-aggregate-write-block : tie.Need-slice-aggregate-write-block
 slice-aggregate-write-block c = search needs
 
+slice-aggregate-guard : tie.Need-slice-aggregate-guard
+slice-aggregate-guard c = search needs
+
+guard-requires-2 : tie.Need-guard-requires-2
+guard-requires-2 c κs = search needs
+
 write-block-requires-2 : tie.Need-write-block-requires-2
 write-block-requires-2 c κs =
-    let w = c .before .before .before .before in
-    let v = w .before .before in
+    let g = c .before in
+    let w = g .before .before .before .before .before in
+    let v = w .before .before .before in
     let p = v .before .before in
     let z = p .before in
     let r = z .before in
     let s = r .before .before .before .before in
     let a = s .args in
-    let h = inside (a .array) (a .stripe) (a .member) (length (a .content .now)) (a .bytes .now) (s .pre) (sym (r .replace-refusal .ensures) ∙ z .if1 .left) in (
+    let h = inside (a .array) (a .stripe) (a .member) (length (a .content .now)) (a .bytes .now) (s .pre) (sym (r .replace-refusal .ensures) ∙ z .if1 .left) in
+    let second = second-inside (a .array) (a .stripe) (a .member) (a .content .now) (a .bytes .now) (p .parity-member .result) (v .moved-parity .result) (w .write-block .last .1 .1 .1 .1 .1 .0) h
+    (p .parity-member .ensures) (v .moved-parity .ensures) (w .write-block .ensures) in (
       ap (ownerRefusal (a .array) (a .stripe)) (p .parity-member .ensures) ∙ parity-sound (a .array) (a .stripe) (a .member) (s .pre),
-      second-inside (a .array) (a .stripe) (a .member) (a .content .now) (a .bytes .now) (p .parity-member .result) (v .moved-parity .result) (w .write-block .last .1 .1 .1 .1 .0) h
-          (p .parity-member .ensures) (v .moved-parity .ensures) (w .write-block .ensures),
+      (second .0, (second .1, g .guard2 .ensures)),
     )
 
 same-length-2 : tie.Need-same-length-2
@@ -68,15 +80,15 @@ same-length-2 c = search needs
 returns-2 : tie.Need-returns-2
 returns-2 c =
     let u = c .before .before in
-    let w = u .before .before .before .before .before in
-    let v = w .before .before in
+    let w = u .before .before .before .before .before .before .before in
+    let v = w .before .before .before in
     let p = v .before .before in
     let z = p .before in
     let r = z .before in
     let s = r .before .before .before .before in
     let a = s .args in
     replace-done (a .array) (a .stripe) (a .member) (a .content .now) (a .bytes .now) (r .replace-refusal .result) (p .parity-member .result) (v .moved-parity .result)
-    (w .write-block .last .1 .1 .1 .1 .0) (u .write-block2 .last .1 .1 .1 .1 .0) (r .replace-refusal .ensures) (z .if1 .left)
+    (w .write-block .last .1 .1 .1 .1 .1 .0) (u .write-block2 .last .1 .1 .1 .1 .1 .0) (r .replace-refusal .ensures) (z .if1 .left)
     (p .parity-member .ensures) (v .moved-parity .ensures) (w .write-block .ensures) (u .write-block2 .ensures)
 
 pub replace-spec : {M : Type 1} → statement M
@@ -88,8 +100,11 @@ replace-spec =
     returns
     parity-member-requires
     moved-parity-requires
+    guard-requires
     write-block-requires
     slice-aggregate-write-block
+    slice-aggregate-guard
+    guard-requires-2
     write-block-requires-2
     same-length-2
     returns-2)

@@ -8,14 +8,14 @@ use lib.Bits.{bitXor}
 use lib.ListN.{length, drop}
 use Rattle.stripe.specs.Verdicts.{combinedGuards}
 use Rattle.stripe.proofs.Quick.{guards-turn, guards-end}
-use Rattle.stripe.proofs.scrubbing.combined_guards.Statement.{statement}
-use Rattle.stripe.proofs.scrubbing.combined_guards.Tie as tie
+use Rattle.stripe.proofs.combined_guards.Statement.{statement}
+use Rattle.stripe.proofs.combined_guards.Tie as tie
 
 abbrev Inv-loop : tie.InvT-loop
-Inv-loop guards combined₀ i₀ combined i = (i ≤ length guards) × (bitXor combined (combinedGuards (drop i guards)) ≡ combinedGuards guards)
+Inv-loop guards combined₀ next₀ combined next = (next ≤ length guards) × (bitXor combined (combinedGuards (drop next guards)) ≡ combinedGuards guards)
 
 abbrev μ-loop : tie.MeasureT-loop
-μ-loop guards combined₀ i₀ combined i = length guards - i
+μ-loop guards combined₀ next₀ combined next = length guards - next
 
 loop-holds : tie.Need-loop-holds Inv-loop μ-loop
 loop-holds c = (omega arith, refl)
@@ -26,8 +26,8 @@ mul-combined c = search needs
 shared-slice-read-combined : tie.Need-shared-slice-read-combined Inv-loop μ-loop
 shared-slice-read-combined c = search needs
 
-add-i : tie.Need-add-i Inv-loop μ-loop
-add-i c = search needs
+add-next : tie.Need-add-next Inv-loop μ-loop
+add-next c = search needs
 
 loop-less : tie.Need-loop-less Inv-loop μ-loop
 loop-less c = search needs
@@ -36,12 +36,12 @@ loop-again : tie.Need-loop-again Inv-loop μ-loop
 loop-again c =
     let at = c .before .before .loop in
     let guards = c .before .before .before .args .guards .now in
-    (omega arith, guards-turn (at .combined) guards (at .i) (omega arith) ∙ at .inv .1)
+    (omega arith, guards-turn (at .combined) guards (at .next) (omega arith) ∙ at .inv .1)
 
 returns : tie.Need-returns Inv-loop μ-loop
 returns c =
     let at = c .before .loop in
-    guards-end (at .combined) (c .before .before .args .guards .now) (at .i) (omega arith) ∙ at .inv .1
+    guards-end (at .combined) (c .before .before .args .guards .now) (at .next) (omega arith) ∙ at .inv .1
 
 pub combined-guards-spec : {M : Type 1} → statement M
 combined-guards-spec =
@@ -52,7 +52,7 @@ combined-guards-spec =
     loop-holds
     mul-combined
     shared-slice-read-combined
-    add-i
+    add-next
     loop-less
     loop-again
     returns)
