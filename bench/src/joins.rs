@@ -59,6 +59,7 @@ impl Ground {
             |run, _| Isal::go_on(0x8BB7, run),
             |run, copy| {
                 copy.copy_from_slice(run);
+                black_box(copy);
                 0
             },
         ];
