@@ -59,8 +59,8 @@ uint16_t irumbolai_guard(const uint8_t *bytes, size_t length);
 
 /*
  * Guards from guards and lengths, without the bytes. These four refuse nothing, and take a number that is no run's
- * guard through the same sums. A length is a number of bytes. They look at no byte and cost the same at any length:
- * up to 32 multiplications, and one exclusive-or.
+ * guard through the same sums. A length is a number of bytes. They look at no byte: a call costs one multiplication for
+ * each bit of the length that is one, so 32 at most.
  *
  * A guard does not tell how long its run is: 65,535 zero bytes more at the end leave it as it was.
  */

@@ -2,8 +2,8 @@
 
 use crate::library;
 use crate::peers::{Isal, Ordinary, Peer};
+use crate::random::{self, Random};
 use crate::rows::CONTESTANTS;
-use crate::stripes::Random;
 use crate::timing::{is_here, keep, nanoseconds};
 use std::hint::black_box;
 use std::time::Instant;
@@ -31,7 +31,7 @@ pub struct Ground {
 impl Ground {
     pub fn new() -> Self {
         let mut bytes = vec![0; MEMORY];
-        Random::new().fill(&mut bytes);
+        Random::new(random::seed()).fill(&mut bytes);
         let longest = LENGTHS.iter().max().expect("there are lengths");
         Ground {
             bytes,

@@ -4,6 +4,9 @@ mod joins;
 mod library;
 mod machine;
 mod peers;
+#[allow(dead_code)]
+#[path = "../../tests/src/random.rs"]
+mod random;
 mod report;
 mod rows;
 mod stripes;

@@ -2,8 +2,9 @@
 
 use crate::library;
 use crate::peers::{self, Isal, Ordinary};
+use crate::random::{self, Random};
 use crate::rows::{CONTESTANTS, IRUMBOLAI, ISAL, MEMCPY, ORDINARY, Room, copy_stripe, guards};
-use crate::stripes::{MEMBERS, Random, STRIPE, VOLUME, Verdict, blocks, damage, seal};
+use crate::stripes::{MEMBERS, STRIPE, VOLUME, Verdict, blocks, damage, seal};
 use crate::timing::{is_here, keep, nanoseconds};
 use std::env;
 use std::hint::black_box;
@@ -41,7 +42,7 @@ pub struct Times {
 
 /// The report programs agree on an image with damaged stripes.
 pub fn compare(program: &Path) {
-    let mut random = Random::new();
+    let mut random = Random::new(random::seed());
     let mut image = image(COMPARED, &mut random);
     for (number, bytes) in image[HEADER..].chunks_exact_mut(STRIPE).enumerate() {
         damage(number as u64, bytes, &mut random);
@@ -50,7 +51,7 @@ pub fn compare(program: &Path) {
 }
 
 pub fn measure(program: &Path) -> Times {
-    let image = image(IMAGE, &mut Random::new());
+    let image = image(IMAGE, &mut Random::new(random::seed()));
     agree(program, &image);
     let mut times = Times {
         bytes: image.len(),

@@ -1,6 +1,7 @@
 //! The array that is measured, and stripes of random data.
 
 use crate::library;
+use crate::random::Random;
 
 pub const DATA: usize = 512;
 pub const BLOCK: usize = 520;
@@ -30,36 +31,6 @@ impl Verdict {
 /// The blocks of a stripe, member by member.
 pub fn blocks(bytes: &[u8]) -> impl Iterator<Item = &[u8]> {
     bytes.chunks_exact(BLOCK)
-}
-
-/// Random numbers that are the same in every run: SplitMix64.
-pub struct Random {
-    state: u64,
-}
-
-impl Random {
-    pub fn new() -> Self {
-        Random { state: 20_260_101 }
-    }
-
-    pub fn next(&mut self) -> u64 {
-        self.state = self.state.wrapping_add(0x9E37_79B9_7F4A_7C15);
-        let mut mixed = self.state;
-        mixed = (mixed ^ (mixed >> 30)).wrapping_mul(0xBF58_476D_1CE4_E5B9);
-        mixed = (mixed ^ (mixed >> 27)).wrapping_mul(0x94D0_49BB_1331_11EB);
-        mixed ^ (mixed >> 31)
-    }
-
-    /// A number below `bound`, which is small beside 2^64.
-    pub fn below(&mut self, bound: usize) -> usize {
-        (self.next() % bound as u64) as usize
-    }
-
-    pub fn fill(&mut self, bytes: &mut [u8]) {
-        for chunk in bytes.chunks_mut(8) {
-            chunk.copy_from_slice(&self.next().to_le_bytes()[..chunk.len()]);
-        }
-    }
 }
 
 /// Fills a buffer with whole stripes of random data, numbered from 0.

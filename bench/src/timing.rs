@@ -1,8 +1,9 @@
 //! The library and its peers take turns, and the best time of each counts.
 
 use crate::peers::isal;
+use crate::random::{self, Random};
 use crate::rows::{CONTESTANTS, IRUMBOLAI, ISAL, MEMCPY, Room, Row, Source};
-use crate::stripes::{MEMBERS, Random, STRIPE, damage, seal};
+use crate::stripes::{MEMBERS, STRIPE, damage, seal};
 use std::hint::black_box;
 use std::time::{Duration, Instant};
 
@@ -49,7 +50,7 @@ pub struct Ground {
 
 impl Ground {
     pub fn new() -> Self {
-        let mut random = Random::new();
+        let mut random = Random::new(random::seed());
         Ground {
             one: Stripes::new(1, &mut random),
             many: Stripes::new(SEGMENT * SEGMENTS, &mut random),
@@ -104,7 +105,7 @@ pub fn keep(best: &mut Option<f64>, time: f64) {
 
 /// The very jobs that are timed give the same answers and leave the same stripes, on good stripes and on damaged ones.
 pub fn compare(row: &Row) {
-    let mut random = Random::new();
+    let mut random = Random::new(random::seed());
     let mut room = Room::new();
     let mut stripes = Stripes::new(MEMBERS, &mut random);
     for _ in 0..CASES {
