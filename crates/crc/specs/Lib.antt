@@ -1,9 +1,4 @@
 pub mod Crc
 pub mod Polynomial
 pub mod Guard
-pub mod Remainders
-pub mod Joins
 pub mod Blocks
-pub mod Tables
-pub mod Folds
-pub mod Eights

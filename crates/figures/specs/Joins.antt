@@ -5,8 +5,8 @@ use mathlib.Core.List.{[], _∷_}
 use Prim.Native.Nat.{ℕ}
 use Rattle.crc.specs.Crc.{bits, bitsOf, bitStep, feed}
 use Rattle.crc.specs.Guard.{run}
-use Rattle.crc.specs.Remainders.{horner, product, squares, chosen, scaled}
-use Rattle.crc.specs.Joins.{factors, inverses, addZeros, removeZeros, join, Piece, joinAll}
+use Rattle.join.specs.Remainders.{horner, product, squares, chosen, scaled}
+use Rattle.join.specs.Joins.{factors, inverses, addZeros, removeZeros, join, Piece, joinAll}
 
 -- a block of 512 bytes with the guard g
 abbrev block : ℕ → Piece

@@ -36,7 +36,7 @@ pub fn bench() {
 // One line: what is given, and its guard.
 fn row(given: &[u8], bytes: &[u8]) {
     io::write_all(STDOUT_FILENO, given);
-    let found = four_digits(crc::guard(bytes));
+    let found = four_digits(fold::guard(bytes));
     io::write_all(STDOUT_FILENO, &found);
     io::write_all(STDOUT_FILENO, b"\n");
 }

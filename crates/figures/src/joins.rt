@@ -8,17 +8,20 @@ pub fn record() {
     content[511] = 1;
     content[1023] = 2;
     content[1535] = 3;
-    let first = crc::guard(&content[0..512]);
-    let second = crc::guard(&content[512..1024]);
-    let third = crc::guard(&content[1024..1536]);
-    let two = crc::join(first, second, 512);
+    let first = fold::guard(&content[0..512]);
+    let second = fold::guard(&content[512..1024]);
+    let third = fold::guard(&content[1024..1536]);
+    let two = join::join(first, second, 512);
     io::write_all(STDOUT_FILENO, b"\nguard of a record's          is\n");
     row(b"block that ends 01           ", first);
     row(b"block that ends 02           ", second);
     row(b"block that ends 03           ", third);
     row(b"first two blocks, joined     ", two);
-    row(b"three blocks, joined         ", crc::join(two, third, 512));
-    row(b"1536 bytes                   ", crc::guard(&content));
+    row(
+        b"three blocks, joined         ",
+        join::join(two, third, 512),
+    );
+    row(b"1536 bytes                   ", fold::guard(&content));
 }
 
 // As many zero bytes as there can be, and one fewer, after a run whose guard is D0DB.
@@ -29,11 +32,11 @@ pub fn zeros() {
 
 // Two lines: the guard with the zeros added, and with as many taken off again.
 fn added(given: &[u8], zeros: u32) {
-    let longer = crc::add_zeros(0xD0DB, zeros);
+    let longer = join::add_zeros(0xD0DB, zeros);
     row(given, longer);
     row(
         b"and taken off again          ",
-        crc::remove_zeros(longer, zeros),
+        join::remove_zeros(longer, zeros),
     );
 }
 

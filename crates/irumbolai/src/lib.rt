@@ -88,7 +88,7 @@ pub struct TakenAnswer {
 pub extern "C" fn irumbolai_guard(bytes: &[u8]) -> u16
     ensures { λ r. ⌜ r ≡ guard (now (bytes .entry)) ⌝ }
 {
-    crc::guard(bytes)
+    fold::guard(bytes)
 }
 
 // A verdict for C.

@@ -70,7 +70,7 @@ fn take_in(state: Scan, member: usize, bytes: &[u8], work: &mut [u8]) -> Scan
     let tail = &bytes[cut..];
     let mut next = state;
     next.at[member] = (position + count) as u16;
-    next.register[member] = crc::run(next.register[member], head);
+    next.register[member] = fold::run(next.register[member], head);
     xor::xor_into(&mut work[from..end], head);
     store(&mut next.tag, member, position + room, tail);
     next

@@ -36,7 +36,7 @@ pub fn rebuild(array: Array, stripe: u64, member: usize, bytes: &mut [u8]) -> u8
     ensures { λ r. ⌜ r ≡ rebuildRefusal array stripe member (now (bytes .entry)) ⌝ }
     ensures { λ _. ⌜ now (bytes .exit) ≡ rebuildBytes array stripe member (now (bytes .entry)) ⌝ }
 {
-    let guards = crc::guards(bytes, BLOCK);
+    let guards = fold::guards(bytes, BLOCK);
     let refusal = rebuild_refusal(array, stripe, member, bytes, guards);
     if refusal != 0 {
         return refusal;

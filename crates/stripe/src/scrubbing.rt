@@ -35,7 +35,7 @@ fn bad_members(array: Array, stripe: u64, bytes: &[u8]) -> BadMembers
     ensures { λ r. ⌜ r .lowest ≡ lowest (badBlocks array stripe (now (bytes .entry))) ⌝ }
     ensures { λ r. ⌜ r .count ≡ count (badBlocks array stripe (now (bytes .entry))) ⌝ }
 {
-    let guards = crc::guards(bytes, BLOCK);
+    let guards = fold::guards(bytes, BLOCK);
     let mut lowest = array.members;
     let mut count: usize = 0;
     let mut member = array.members;

@@ -90,7 +90,7 @@ pub fn seal(array: Array, stripe: u64, content: &[u8], bytes: &mut [u8]) -> u8
     if refusal != 0 {
         return refusal;
     }
-    let guards = crc::guards(content, DATA);
+    let guards = fold::guards(content, DATA);
     write_data(array, stripe, content, guards, bytes);
     let members = array.members;
     let parity = layout::parity_member(array, stripe);

@@ -36,7 +36,7 @@ fn serve(array: Array, stripe: u64, member: usize, bytes: &[u8], out: &mut [u8])
         put(out, 0, &bytes[from..end]);
         return Reading::Stored;
     }
-    if !others_good(array, stripe, bytes, member, crc::guards(bytes, BLOCK)) {
+    if !others_good(array, stripe, bytes, member, fold::guards(bytes, BLOCK)) {
         return Reading::Refused(9);
     }
     let content = combined(bytes, members, member);

@@ -66,8 +66,8 @@ fn replace(array: Array, stripe: u64, member: usize, content: &[u8], bytes: &mut
     }
     let parity = layout::parity_member(array, stripe);
     let moved = moved_parity(bytes, parity, member, content);
-    write_block(array, stripe, member, content, crc::guard(content), bytes);
-    write_block(array, stripe, parity, &moved, crc::guard(&moved), bytes);
+    write_block(array, stripe, member, content, fold::guard(content), bytes);
+    write_block(array, stripe, parity, &moved, fold::guard(&moved), bytes);
     0
 }
 

@@ -200,7 +200,7 @@ pub fn check(array: Array, stripe: u64, member: usize, block: &[u8]) -> Checked
     if refusal != 0 {
         return Checked::Refused(refusal);
     }
-    let guard = crc::guard(&block[0..DATA]);
+    let guard = fold::guard(&block[0..DATA]);
     let expected = due(array, stripe, member, guard);
     first_wrong(found(tag_at(block, DATA)), expected)
 }

@@ -1,0 +1,7 @@
+pub mod Entries
+pub mod Strides
+pub mod Taken
+pub mod Buffers
+pub mod Multiples
+pub mod Carrying
+pub mod Puts

@@ -1,0 +1,127 @@
+-- `fold::chunk` meets its contract. The invariants: what is mixed so far, and then what of it is written; the rest of the buffer stays.
+-- Assumes nothing.
+use mathlib.Core.Path.{_≡_, refl, _∙_}
+use mathlib.Core.List.{[], _∷_}
+use Prim.Native.Nat.{ℕ, _+_, _-_, _≤_, _<_}
+use native.Mathlib.Omega.{arith}
+use lib.ListN.{length, getD, length-set}
+use Rattle.fold.specs.Folds.{mix}
+use Rattle.fold.proofs.Puts.{put-next, put-first}
+use borrow.Author.Needs.{needs, read-below, read-above}
+use Rattle.fold.proofs.chunk.Statement.{statement}
+use Rattle.fold.proofs.chunk.Tie as tie
+
+abbrev Inv-loop : tie.InvT-loop
+Inv-loop c o d e f b p w q x₀ j₀ x j = (j ≤ c) × (length x ≡ 96) × ((k : ℕ) → k < j → getD x k 0 ≡ mix (d ∷ e ∷ f ∷ []) (getD b (p + k) 0) w (q + k))
+
+abbrev μ-loop : tie.MeasureT-loop
+μ-loop c o d e f b p w q x₀ j₀ x j = c - j
+
+abbrev Inv-loop2 : tie.InvT-loop2
+Inv-loop2 c o d e f b p w₀ q x j k₀ w k = (k ≤ c) × (length w ≡ length w₀) × ((i : ℕ) → i < q + o → getD w i 0 ≡ getD w₀ i 0) × ((i : ℕ) → q + o + k ≤ i → getD w i 0 ≡ getD w₀ i 0) × ((m : ℕ) → m < k → getD w (q + o + m) 0 ≡ getD x m 0)
+
+abbrev μ-loop2 : tie.MeasureT-loop2
+μ-loop2 c o d e f b p w₀ q x j k₀ w k = c - k
+
+loop-holds : tie.Need-loop-holds Inv-loop μ-loop Inv-loop2 μ-loop2
+loop-holds c = search needs
+
+add-mixed : tie.Need-add-mixed Inv-loop μ-loop Inv-loop2 μ-loop2
+add-mixed c = search needs
+
+add-mixed-2 : tie.Need-add-mixed-2 Inv-loop μ-loop Inv-loop2 μ-loop2
+add-mixed-2 c = search needs
+
+mixed-requires : tie.Need-mixed-requires Inv-loop μ-loop Inv-loop2 μ-loop2
+mixed-requires c κs = search needs
+
+array-write-x : tie.Need-array-write-x Inv-loop μ-loop Inv-loop2 μ-loop2
+array-write-x c = search needs
+
+add-j : tie.Need-add-j Inv-loop μ-loop Inv-loop2 μ-loop2
+add-j c = search needs
+
+loop-less : tie.Need-loop-less Inv-loop μ-loop Inv-loop2 μ-loop2
+loop-less c = search needs
+
+loop-again : tie.Need-loop-again Inv-loop μ-loop Inv-loop2 μ-loop2
+loop-again c =
+    let a = c .before .before .before .before .before .before .args in
+    let at = c .before .before .before .loop in
+    (omega arith, length-set (at .x) (at .j) (c .mixed .result) ∙ at .inv .1, put-first (at .x) (at .j) (c .mixed .result) (λ k. mix (a .d ∷ a .e ∷ a .f ∷ []) (getD (a .b .now) (a .p + k) 0) (a .w .now) (a .q + k)) (omega arith) (at .inv .2) (c .mixed .ensures))
+
+loop2-holds : tie.Need-loop2-holds Inv-loop μ-loop Inv-loop2 μ-loop2
+loop2-holds c = search needs
+
+array-read-w : tie.Need-array-read-w Inv-loop μ-loop Inv-loop2 μ-loop2
+array-read-w c = search needs
+
+add-w : tie.Need-add-w Inv-loop μ-loop Inv-loop2 μ-loop2
+add-w c = search needs
+
+add-w-2 : tie.Need-add-w-2 Inv-loop μ-loop Inv-loop2 μ-loop2
+add-w-2 c = search needs
+
+slice-write-w : tie.Need-slice-write-w Inv-loop μ-loop Inv-loop2 μ-loop2
+slice-write-w c = search needs
+
+add-k : tie.Need-add-k Inv-loop μ-loop Inv-loop2 μ-loop2
+add-k c = search needs
+
+loop2-less : tie.Need-loop2-less Inv-loop μ-loop Inv-loop2 μ-loop2
+loop2-less c = search needs
+
+loop2-again : tie.Need-loop2-again Inv-loop μ-loop Inv-loop2 μ-loop2
+loop2-again c =
+    let a = c .before .before .before .before .before .before .args in
+    let at = c .before .loop2 in
+    let x = c .before .before .before .loop .x in
+    let to = a .q + a .o + at .k in
+    let v = getD x (at .k) 0 in (
+      omega arith,
+      length-set (at .w) to v ∙ at .inv .1,
+      (λ i h. read-below ℕ (at .w) to i v 0 (getD (a .w .now) i 0) (omega arith) (at .inv .2 i h)),
+      (λ i h. read-above ℕ (at .w) to i v 0 (getD (a .w .now) i 0) (omega arith) (at .inv .3 i (omega arith))),
+      put-next (at .w) (a .q + a .o) (at .k) v (λ m. getD x m 0) (search needs) (at .inv .4) refl,
+    )
+
+same-length : tie.Need-same-length Inv-loop μ-loop Inv-loop2 μ-loop2
+same-length c = search needs
+
+returns : tie.Need-returns Inv-loop μ-loop Inv-loop2 μ-loop2
+returns c =
+    let at = c .before .loop2 in
+    let made = c .before .before .before .loop .inv .2 in
+    record {
+      long = at .inv .1;
+      before = at .inv .2;
+      after = λ j h. at .inv .3 j (omega arith);
+      made = λ k h. at .inv .4 k (omega arith) ∙ made k (omega arith);
+    }
+
+pub chunk-spec : {M : Type 1} → statement M
+chunk-spec =
+    tie.close
+    (tie.spec
+    Inv-loop
+    μ-loop
+    Inv-loop2
+    μ-loop2
+    loop-holds
+    add-mixed
+    add-mixed-2
+    mixed-requires
+    array-write-x
+    add-j
+    loop-less
+    loop-again
+    loop2-holds
+    array-read-w
+    add-w
+    add-w-2
+    slice-write-w
+    add-k
+    loop2-less
+    loop2-again
+    same-length
+    returns)

@@ -1,0 +1,17 @@
+-- `fold::folded` meets its contract: two folds, one after the other.
+-- Assumes nothing.
+use borrow.Author.Needs.{needs}
+use Rattle.fold.proofs.folded.Statement.{statement}
+use Rattle.fold.proofs.folded.Tie as tie
+
+to-128-requires : tie.Need-to-128-requires
+to-128-requires c κs = search needs
+
+to-64-requires : tie.Need-to-64-requires
+to-64-requires c κs = search needs
+
+returns : tie.Need-returns
+returns c = search needs
+
+pub folded-spec : {M : Type 1} → statement M
+folded-spec = tie.close (tie.spec to-128-requires to-64-requires returns)
