@@ -41,9 +41,6 @@ filled-with-data member bytes out left h room e =
     e ∙ ap (sets out 0) (lent-data member bytes)
     ∙ sets-whole out (dataOf (blockOf bytes member)) (room ∙ sym (length-data (blockOf bytes member) (length-span (520 * member) 520 bytes h)))
 
-pub filled-with-run : (run content out left : List ℕ) → length out ≡ length run → content ≡ run → left ≡ sets out 0 content → left ≡ run
-filled-with-run run content out left room same e = e ∙ ap (sets out 0) same ∙ sets-whole out run room
-
 -- one bad member is enough
 pub bad-other : (a : Array) (stripe skip : ℕ) (bytes : List ℕ) (k : ℕ) → k < a .members → k ≢ skip → storedGood a stripe k bytes ≡ false → othersGood a stripe skip bytes ≡ false
 bad-other a stripe skip bytes k h other bad = by-flag (othersGood a stripe skip bytes) refl

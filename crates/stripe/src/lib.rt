@@ -33,7 +33,7 @@ use tag::Checked;
 use tag::DATA;
 
 // Bytes of a row: what stays in registers while the members go by.
-const ROW: usize = 64;
+const ROW: usize = 128;
 
 // What a verified read says: the block's own data, or data rebuilt from the other members.
 pub enum Reading {
@@ -55,12 +55,12 @@ fn put(dst: &mut [u8], at: usize, src: &[u8])
 }
 
 // One row of the combined data of all members but `skip`.
-fn row(bytes: &[u8], members: usize, skip: usize, at: usize) -> [u8; 64]
+fn row(bytes: &[u8], members: usize, skip: usize, at: usize) -> [u8; 128]
     requires { ⌜ 520 * members ≤ length (now bytes) ⌝ }
-    requires { ⌜ at + 64 ≤ 512 ⌝ }
-    ensures { λ r. ⌜ r ≡ span at 64 (othersData members skip (now (bytes .entry))) ⌝ }
+    requires { ⌜ at + 128 ≤ 512 ⌝ }
+    ensures { λ r. ⌜ r ≡ span at 128 (othersData members skip (now (bytes .entry))) ⌝ }
 {
-    let mut row = [0u8; 64];
+    let mut row = [0u8; 128];
     let mut member: usize = 0;
     while member < members {
         if member != skip {
@@ -74,18 +74,17 @@ fn row(bytes: &[u8], members: usize, skip: usize, at: usize) -> [u8; 64]
 }
 
 // The combined data of all members but `skip`, all of them where there is no such member: one pass over the members, row by row.
-fn combined(bytes: &[u8], members: usize, skip: usize) -> [u8; 512]
+fn combined(bytes: &[u8], members: usize, skip: usize, out: &mut [u8])
     requires { ⌜ 520 * members ≤ length (now bytes) ⌝ }
-    ensures { λ r. ⌜ r ≡ othersData members skip (now (bytes .entry)) ⌝ }
+    requires { ⌜ length (now out) ≡ 512 ⌝ }
+    ensures { λ _. ⌜ now (out .exit) ≡ othersData members skip (now (bytes .entry)) ⌝ }
 {
-    let mut all = [0u8; 512];
     let mut at: usize = 0;
     while at < DATA {
         let row = row(bytes, members, skip, at);
-        put(&mut all, at, &row);
+        put(out, at, &row);
         at += ROW;
     }
-    all
 }
 
 // What a scrub finds in a stripe: every member good and parity right; the lowest of `count` bad members; or, with every

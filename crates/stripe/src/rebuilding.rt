@@ -42,7 +42,8 @@ pub fn rebuild(array: Array, stripe: u64, member: usize, bytes: &mut [u8]) -> u8
         return refusal;
     }
     let members = array.members;
-    let content = combined(bytes, members, member);
+    let mut content = [0u8; 512];
+    combined(bytes, members, member, &mut content);
     let data_guard = combined_guards(&guards[0..members]) ^ guards[member];
     write_block(array, stripe, member, &content, data_guard, bytes);
     0

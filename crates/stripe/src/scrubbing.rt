@@ -128,7 +128,8 @@ pub fn scrub(array: Array, stripe: u64, bytes: &[u8]) -> Scrubbed
     }
     let members = array.members;
     let bad = bad_members(array, stripe, bytes);
-    let data = crate::combined(bytes, members, members);
+    let mut data = [0u8; 512];
+    crate::combined(bytes, members, members, &mut data);
     let verdict = judge(bad.lowest, bad.count, &data);
     Scrubbed::Found(verdict)
 }

@@ -94,8 +94,9 @@ pub fn seal(array: Array, stripe: u64, content: &[u8], bytes: &mut [u8]) -> u8
     write_data(array, stripe, content, guards, bytes);
     let members = array.members;
     let parity = layout::parity_member(array, stripe);
-    let combined = combined(bytes, members, parity);
+    let mut parity_data = [0u8; 512];
+    combined(bytes, members, parity, &mut parity_data);
     let data_guard = combined_guards(&guards[0..members - 1]);
-    write_block(array, stripe, parity, &combined, data_guard, bytes);
+    write_block(array, stripe, parity, &parity_data, data_guard, bytes);
     0
 }

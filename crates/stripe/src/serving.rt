@@ -39,8 +39,7 @@ fn serve(array: Array, stripe: u64, member: usize, bytes: &[u8], out: &mut [u8])
     if !others_good(array, stripe, bytes, member, fold::guards(bytes, BLOCK)) {
         return Reading::Refused(9);
     }
-    let content = combined(bytes, members, member);
-    put(out, 0, &content);
+    combined(bytes, members, member, out);
     Reading::Rebuilt
 }
 

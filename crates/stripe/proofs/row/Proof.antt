@@ -17,13 +17,13 @@ use Rattle.stripe.proofs.row.Tie as tie
 
 abbrev Inv-loop : tie.InvT-loop
 Inv-loop bytes members skip at row₀ member₀ row member =
-    (length row ≡ 64) × (member ≤ members) × (addAll row (drop member (memberRows at 64 members skip bytes)) ≡ span at 64 (othersData members skip bytes))
+    (length row ≡ 128) × (member ≤ members) × (addAll row (drop member (memberRows at 128 members skip bytes)) ≡ span at 128 (othersData members skip bytes))
 
 abbrev μ-loop : tie.MeasureT-loop
 μ-loop bytes members skip at row₀ member₀ row member = members - member
 
 loop-holds : tie.Need-loop-holds Inv-loop μ-loop
-loop-holds c = let a = c .before .args in (refl, search needs, row-whole (a .at) 64 (a .members) (a .skip) (a .bytes .now) (c .before .pre .1))
+loop-holds c = let a = c .before .args in (refl, search needs, row-whole (a .at) 128 (a .members) (a .skip) (a .bytes .now) (c .before .pre .1))
 
 mul-from : tie.Need-mul-from Inv-loop μ-loop
 mul-from c = search needs
@@ -64,14 +64,14 @@ loop-again c =
     (λ w. (
       ap length (w .5 ∙ w .3 .ensures) ∙ length-xors _ _ ∙ at .inv .0,
       omega arith,
-      ap (λ (r : List ℕ). addAll r (drop (at .member + 1) (memberRows (a .at) 64 (a .members) (a .skip) (a .bytes .now)))) (w .5 ∙ w .3 .ensures ∙ ap (xors (at .row)) (lent-span (520 * at .member + a .at) 64 (a .bytes .now)))
-          ∙ row-turn (a .at) 64 (a .members) (a .skip) (a .bytes .now) (at .row) (at .member) (omega arith) (w .0 .taken) (s .pre .1) ∙ at .inv .2,
+      ap (λ (r : List ℕ). addAll r (drop (at .member + 1) (memberRows (a .at) 128 (a .members) (a .skip) (a .bytes .now)))) (w .5 ∙ w .3 .ensures ∙ ap (xors (at .row)) (lent-span (520 * at .member + a .at) 128 (a .bytes .now)))
+          ∙ row-turn (a .at) 128 (a .members) (a .skip) (a .bytes .now) (at .row) (at .member) (omega arith) (w .0 .taken) (s .pre .1) ∙ at .inv .2,
     ))
     (λ w. (
       ap length (w .1) ∙ at .inv .0,
       omega arith,
-      ap (λ (r : List ℕ). addAll r (drop (at .member + 1) (memberRows (a .at) 64 (a .members) (a .skip) (a .bytes .now)))) (w .1)
-          ∙ row-skip (a .at) 64 (a .members) (a .skip) (a .bytes .now) (at .row) (at .member) (omega arith) (w .0 .left) ∙ at .inv .2,
+      ap (λ (r : List ℕ). addAll r (drop (at .member + 1) (memberRows (a .at) 128 (a .members) (a .skip) (a .bytes .now)))) (w .1)
+          ∙ row-skip (a .at) 128 (a .members) (a .skip) (a .bytes .now) (at .row) (at .member) (omega arith) (w .0 .left) ∙ at .inv .2,
     ))
     (c .if1 .came)
 
@@ -79,7 +79,7 @@ returns : tie.Need-returns Inv-loop μ-loop
 returns c =
     let at = c .before .loop in
     let a = c .before .before .before .args in
-    row-done (a .at) 64 (a .members) (a .skip) (a .bytes .now) (at .row) (at .member) (omega arith) ∙ at .inv .2
+    row-done (a .at) 128 (a .members) (a .skip) (a .bytes .now) (at .row) (at .member) (omega arith) ∙ at .inv .2
 
 pub row-spec : {M : Type 1} → statement M
 row-spec =

@@ -44,8 +44,11 @@ sources c =
     let a = k .before .before .before .before .before .args in
     rebuild-sources (a .array) (a .stripe) (a .member) (a .bytes .now) (sym (k .rebuild-refusal .ensures) ∙ c .before .if1 .left)
 
+slice-aggregate-combined : tie.Need-slice-aggregate-combined
+slice-aggregate-combined c = search needs
+
 combined-requires : tie.Need-combined-requires
-combined-requires c κs = omega (arith, sources c .long)
+combined-requires c κs = (omega (arith, sources (c .before) .long), search needs)
 
 sub-combined-guards : tie.Need-sub-combined-guards
 sub-combined-guards c = search needs
@@ -54,19 +57,19 @@ part-combined-guards-start : tie.Need-part-combined-guards-start
 part-combined-guards-start c = search needs
 
 part-combined-guards-end : tie.Need-part-combined-guards-end
-part-combined-guards-end c = omega (arith, place-sound _ _ _ (sources (c .before .before) .place) .stripe .array .many)
+part-combined-guards-end c = omega (arith, place-sound _ _ _ (sources (c .before .before .before .before) .place) .stripe .array .many)
 
 combined-guards-requires : tie.Need-combined-guards-requires
 combined-guards-requires c κs = search needs
 
 mul-data-guard : tie.Need-mul-data-guard
 mul-data-guard c =
-    let place = place-sound _ _ _ (sources (c .before .before .before .before) .place) in
+    let place = place-sound _ _ _ (sources (c .before .before .before .before .before .before) .place) in
     omega (arith, place .here, place .stripe .array .many)
 
 array-read-data-guard : tie.Need-array-read-data-guard
 array-read-data-guard c =
-    let place = place-sound _ _ _ (sources (c .before .before .before .before) .place) in
+    let place = place-sound _ _ _ (sources (c .before .before .before .before .before .before) .place) in
     omega (arith, place .here, place .stripe .array .many)
 
 slice-aggregate-write-block : tie.Need-slice-aggregate-write-block
@@ -75,14 +78,14 @@ slice-aggregate-write-block c = search needs
 write-block-requires : tie.Need-write-block-requires
 write-block-requires c κs =
     let g = c .before .before in
-    let m = g .before .before .before in
-    let k = m .before .before .before in
+    let m = g .before .before .before .before in
+    let k = m .before .before .before .before in
     let a = k .before .before .before .before .before .args in
-    let found = sources (m .before) in
-    let count : length (m .combined .result) ≡ 512 = ap length (m .combined .ensures) ∙ length-othersData (a .array .members) (a .member) (a .bytes .now) in
+    let found = sources (m .before .before) in
+    let count : length (m .combined .last .1 .1 .1 .0) ≡ 512 = ap length (m .combined .ensures) ∙ length-othersData (a .array .members) (a .member) (a .bytes .now) in
     let place = place-sound (a .array) (a .stripe) (a .member) (found .place) in
     let right = rebuilt-guard (a .bytes .now) (a .array .members) (a .member) (place .stripe .array .many) (place .here) (omega (arith, found .long))
-    (g .combined-guards .result) (k .before .before .guards .result) (m .combined .result) (k .before .before .guards .ensures) (g .combined-guards .ensures) (m .combined .ensures) in
+    (g .combined-guards .result) (k .before .before .guards .result) (m .combined .last .1 .1 .1 .0) (k .before .before .guards .ensures) (g .combined-guards .ensures) (m .combined .ensures) in
     (found .place, (count, (omega (arith, found .long, place .here), right)))
 
 same-length-2 : tie.Need-same-length-2
@@ -91,12 +94,12 @@ same-length-2 c = search needs
 returns-2 : tie.Need-returns-2
 returns-2 c =
     let w = c .before .before in
-    let m = w .before .before .before .before .before .before in
-    let k = m .before .before .before in
+    let m = w .before .before .before .before .before .before .before in
+    let k = m .before .before .before .before in
     let a = k .before .before .before .before .before .args in
-    let none = sym (k .rebuild-refusal .ensures) ∙ m .before .before .if1 .left in (
+    let none = sym (k .rebuild-refusal .ensures) ∙ m .before .before .before .if1 .left in (
       sym none,
-      made (a .array) (a .stripe) (a .member) (a .bytes .now) (m .combined .result) (w .write-block .last .1 .1 .1 .1 .1 .0) (m .combined .ensures) (w .write-block .ensures)
+      made (a .array) (a .stripe) (a .member) (a .bytes .now) (m .combined .last .1 .1 .1 .0) (w .write-block .last .1 .1 .1 .1 .1 .0) (m .combined .ensures) (w .write-block .ensures)
           ∙ rebuild-done (a .array) (a .stripe) (a .member) (a .bytes .now) none,
     )
 
@@ -108,6 +111,7 @@ rebuild-spec =
     rebuild-refusal-requires
     same-length
     returns
+    slice-aggregate-combined
     combined-requires
     sub-combined-guards
     part-combined-guards-start

@@ -22,11 +22,14 @@ returns c =
 bad-members-requires : tie.Need-bad-members-requires
 bad-members-requires c κs = search needs
 
+slice-aggregate-combined : tie.Need-slice-aggregate-combined
+slice-aggregate-combined c = search needs
+
 combined-requires : tie.Need-combined-requires
 combined-requires c κs =
-    let a = c .before .before .before .before .args in
-    let sound = sym (c .before .before .scrub-refusal .ensures) ∙ c .before .if1 .left in
-    omega (arith, scrub-sound (a .array) (a .stripe) (length (a .bytes .now)) sound .1)
+    let a = c .before .before .before .before .before .args in
+    let sound = sym (c .before .before .before .scrub-refusal .ensures) ∙ c .before .before .if1 .left in
+    (omega (arith, scrub-sound (a .array) (a .stripe) (length (a .bytes .now)) sound .1), search needs)
 
 slice-aggregate-judge : tie.Need-slice-aggregate-judge
 slice-aggregate-judge c = search needs
@@ -36,14 +39,14 @@ judge-requires c κs = search needs
 
 returns-2 : tie.Need-returns-2
 returns-2 c =
-    let d = c .before .before in
-    let b = d .before in
+    let d = c .before .before .before in
+    let b = d .before .before in
     let r = b .before .before in
     let a = r .before .before .args in
     let found = b .bad-members in
     ap (λ (l : List ℕ). 1 ∷ 0 ∷ l) (c .judge .ensures)
     ∙ sym (scrub-found (a .array) (a .stripe) (a .bytes .now) (sym (r .scrub-refusal .ensures) ∙ b .before .if1 .left)
-    (found .result .lowest) (found .result .count) (d .combined .result) (found .ensures .0) (found .ensures .1) (d .combined .ensures))
+    (found .result .lowest) (found .result .count) (d .combined .last .1 .1 .1 .0) (found .ensures .0) (found .ensures .1) (d .combined .ensures))
 
 pub scrub-spec : {M : Type 1} → statement M
 scrub-spec =
@@ -52,6 +55,7 @@ scrub-spec =
     scrub-refusal-requires
     returns
     bad-members-requires
+    slice-aggregate-combined
     combined-requires
     slice-aggregate-judge
     judge-requires

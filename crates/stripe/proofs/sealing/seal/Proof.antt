@@ -43,9 +43,12 @@ write-data-requires c κs =
 parity-member-requires : tie.Need-parity-member-requires
 parity-member-requires c κs = search needs
 
+slice-aggregate-combined : tie.Need-slice-aggregate-combined
+slice-aggregate-combined c = search needs
+
 combined-requires : tie.Need-combined-requires
 combined-requires c κs =
-    let w = c .before .before .before .before in
+    let w = c .before .before .before .before .before in
     let g = w .before .before in
     let k = g .before .before in
     let a = k .before .before .before .args in
@@ -53,10 +56,10 @@ combined-requires c κs =
     let sound = stripe-sound (a .array) (a .stripe) (fits .stripe-good) in
     let long : length (w .write-data .last .1 .1 .1 .1 .0) ≡ stripeLength (a .array) =
     ap length (w .write-data .ensures) ∙ length-written (a .array) (a .stripe) (a .content .now) sound (fits .content-long) (a .bytes .now) (fits .stripe-long) in
-    omega arith
+    (omega arith, search needs)
 
 sub-combined-guards : tie.Need-sub-combined-guards
-sub-combined-guards c = omega (arith, stripe-sound _ _ (fitting (c .before .before .before .before .before .before .before) .stripe-good) .array .few)
+sub-combined-guards c = omega (arith, stripe-sound _ _ (fitting (c .before .before .before .before .before .before .before .before .before) .stripe-good) .array .few)
 
 sub-combined-guards-2 : tie.Need-sub-combined-guards-2
 sub-combined-guards-2 c = search needs
@@ -65,7 +68,7 @@ part-combined-guards-start : tie.Need-part-combined-guards-start
 part-combined-guards-start c = search needs
 
 part-combined-guards-end : tie.Need-part-combined-guards-end
-part-combined-guards-end c = omega (arith, stripe-sound _ _ (fitting (c .before .before .before .before .before .before .before .before) .stripe-good) .array .many)
+part-combined-guards-end c = omega (arith, stripe-sound _ _ (fitting (c .before .before .before .before .before .before .before .before .before .before) .stripe-good) .array .many)
 
 combined-guards-requires : tie.Need-combined-guards-requires
 combined-guards-requires c κs = search needs
@@ -76,8 +79,8 @@ slice-aggregate-write-block c = search needs
 write-block-requires : tie.Need-write-block-requires
 write-block-requires c κs =
     let e = c .before .before in
-    let m = e .before .before .before in
-    let p = m .before .before in
+    let m = e .before .before .before .before in
+    let p = m .before .before .before in
     let w = p .before .before .before in
     let g = w .before .before in
     let k = g .before .before in
@@ -86,10 +89,10 @@ write-block-requires c κs =
     let sound = stripe-sound (a .array) (a .stripe) (fits .stripe-good) in
     let long : length (w .write-data .last .1 .1 .1 .1 .0) ≡ stripeLength (a .array) =
     ap length (w .write-data .ensures) ∙ length-written (a .array) (a .stripe) (a .content .now) sound (fits .content-long) (a .bytes .now) (fits .stripe-long) in
-    let count : length (m .combined .result) ≡ 512 = ap length (m .combined .ensures) ∙ length-othersData (a .array .members) (p .parity-member .result) (w .write-data .last .1 .1 .1 .1 .0) in
+    let count : length (m .combined .last .1 .1 .1 .0) ≡ 512 = ap length (m .combined .ensures) ∙ length-othersData (a .array .members) (p .parity-member .result) (w .write-data .last .1 .1 .1 .1 .0) in
     let below : p .parity-member .result < a .array .members = rw (p .parity-member .ensures) (parity-below (a .array) (a .stripe) (omega (arith, sound .array .few))) in
     let right = parity-guard (a .array) (a .stripe) (a .content .now) sound (fits .content-long) (a .bytes .now) (fits .stripe-long)
-    (p .parity-member .result) (e .combined-guards .result) (w .write-data .last .1 .1 .1 .1 .0) (m .combined .result) (g .guards .result)
+    (p .parity-member .result) (e .combined-guards .result) (w .write-data .last .1 .1 .1 .1 .0) (m .combined .last .1 .1 .1 .0) (g .guards .result)
     (p .parity-member .ensures) (w .write-data .ensures) (m .combined .ensures) (g .guards .ensures) (e .combined-guards .ensures) in
     (sound-place (a .array) (a .stripe) (p .parity-member .result) (record { stripe = sound; here = below }), (count, (omega arith, right)))
 
@@ -99,8 +102,8 @@ same-length c = search needs
 returns-2 : tie.Need-returns-2
 returns-2 c =
     let b = c .before .before in
-    let m = b .before .before .before .before .before .before in
-    let p = m .before .before in
+    let m = b .before .before .before .before .before .before .before in
+    let p = m .before .before .before in
     let w = p .before .before .before in
     let g = w .before .before in
     let k = g .before .before in
@@ -110,7 +113,7 @@ returns-2 c =
     let none = sym (k .seal-refusal .ensures) ∙ g .before .if1 .left in (
       sym none,
       sealed-by-calls (a .array) (a .stripe) (a .content .now) sound (fits .content-long) (a .bytes .now) (fits .stripe-long)
-          (p .parity-member .result) (w .write-data .last .1 .1 .1 .1 .0) (m .combined .result) (b .write-block .last .1 .1 .1 .1 .1 .0)
+          (p .parity-member .result) (w .write-data .last .1 .1 .1 .1 .0) (m .combined .last .1 .1 .1 .0) (b .write-block .last .1 .1 .1 .1 .1 .0)
           (p .parity-member .ensures) (w .write-data .ensures) (m .combined .ensures) (b .write-block .ensures)
           ∙ seal-done (a .array) (a .stripe) (a .content .now) (a .bytes .now) none,
     )
@@ -124,6 +127,7 @@ seal-spec =
     guards-requires
     write-data-requires
     parity-member-requires
+    slice-aggregate-combined
     combined-requires
     sub-combined-guards
     sub-combined-guards-2

@@ -6,9 +6,7 @@ use native.Mathlib.Omega.{arith}
 use lib.ListN.{length}
 use borrow.Author.Tests.{not-true, not-false}
 use Rattle.layout.proofs.Ranges.{place-sound, sound-stripe}
-use Rattle.stripe.specs.Stripes.{othersData}
-use Rattle.stripe.proofs.Rows.{length-othersData}
-use Rattle.stripe.proofs.Served.{filled-with-data, filled-with-run, serve-other-stripe, serve-other-out, serve-stored, serve-rebuilt, serve-damaged}
+use Rattle.stripe.proofs.Served.{filled-with-data, serve-other-stripe, serve-other-out, serve-stored, serve-rebuilt, serve-damaged}
 use borrow.Author.Needs.{needs}
 use Rattle.stripe.proofs.serving.serve.Statement.{statement}
 use Rattle.stripe.proofs.serving.serve.Tie as tie
@@ -87,30 +85,21 @@ returns-4 c =
 combined-requires : tie.Need-combined-requires
 combined-requires c κs = search needs
 
-slice-aggregate-put : tie.Need-slice-aggregate-put
-slice-aggregate-put c = search needs
-
-put-requires-2 : tie.Need-put-requires-2
-put-requires-2 c κs = search needs
-
 same-length-2 : tie.Need-same-length-2
 same-length-2 c = search needs
 
 returns-5 : tie.Need-returns-5
 returns-5 c =
-    let p = c .before .before in
-    let m = p .before .before .before in
-    let n = m .before .before in
+    let m = c .before .before in
+    let n = m .before .before .before in
     let t = n .before .before in
     let g = t .before in
     let o = g .before in
     let l = o .before in
     let a = l .before .before .before .args in
-    let made = othersData (a .array .members) (a .member) (a .bytes .now) in
-    serve-rebuilt (a .array) (a .stripe) (a .member) (a .bytes .now) (a .out .now) (l .if1 .left) (o .if2 .left) (sym (g .is-good .ensures) ∙ t .if3 .left) (p .put2 .last .0)
-    (sym (n .others-good .ensures) ∙ not-false (n .others-good .result) (m .before .if4 .left))
-    (filled-with-run made (m .combined .result) (a .out .now) (p .put2 .last .0)
-    (o .if2 .left ∙ sym (length-othersData (a .array .members) (a .member) (a .bytes .now))) (m .combined .ensures) (p .put2 .ensures))
+    serve-rebuilt (a .array) (a .stripe) (a .member) (a .bytes .now) (a .out .now) (l .if1 .left) (o .if2 .left) (sym (g .is-good .ensures) ∙ t .if3 .left) (m .combined .last .1 .1 .1 .0)
+    (sym (n .others-good .ensures) ∙ not-false (n .others-good .result) (m .before .before .if4 .left))
+    (m .combined .ensures)
 
 pub serve-spec : {M : Type 1} → statement M
 serve-spec =
@@ -132,7 +121,5 @@ serve-spec =
     others-good-requires
     returns-4
     combined-requires
-    slice-aggregate-put
-    put-requires-2
     same-length-2
     returns-5)
