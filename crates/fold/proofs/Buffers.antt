@@ -32,6 +32,13 @@ pub mix-none : (ds : List ℕ) (x k : ℕ) → mix ds x [] k ≡ x
 mix-none [] x k = refl
 mix-none (d ∷ ds) x k = ap (λ (y : ℕ). mix ds y [] k) (xor-zero-r x) ∙ mix-none ds x k
 
+-- where w has zeros, the byte is as it comes
+pub mix-blank : (ds : List ℕ) (z x : ℕ) (w : List ℕ) (q : ℕ) → Below ds z → ((j : ℕ) → j < q + z → getD w j 0 ≡ 0) → mix ds x w q ≡ x
+mix-blank [] z x w q h blank = refl
+mix-blank (d ∷ ds) z x w q h blank =
+    let l : d < z = h .0 in
+    ap (λ (y : ℕ). mix ds (bitXor x y) w q) (blank (q + d) (omega arith)) ∙ ap (λ (y : ℕ). mix ds y w q) (xor-zero-r x) ∙ mix-blank ds z x w q (h .1) blank
+
 -- ---- the lane
 
 -- nothing was taken away yet

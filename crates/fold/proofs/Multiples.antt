@@ -17,3 +17,8 @@ wide = refl
 pub narrow : table (bit-guard (35 ∷ 55 ∷ 62 ∷ []) 64) 0 8 ≡ zeros 8
 unfolding guard run feed bits bitsOf bitStep addAt addEach
 narrow = refl
+
+-- x ^ 312 + x ^ 120 + x ^ 80 + x ^ 56 + 1: a byte goes 24, 29, 32 and 39 places on
+pub near : table (bit-guard (23 ∷ 28 ∷ 31 ∷ 38 ∷ []) 40) 0 8 ≡ zeros 8
+unfolding guard run feed bits bitsOf bitStep addAt addEach
+near = refl
