@@ -58,6 +58,21 @@ extern "C" {
 uint16_t irumbolai_guard(const uint8_t *bytes, size_t length);
 
 /*
+ * The guards of up to sixteen blocks at once, which takes a fraction of the time of as many calls of irumbolai_guard.
+ * guard[i] is that of the 512 bytes that begin i x stride bytes after the first: with a stride of 520, of the data of the
+ * members of a stripe in memory. Of a run that the buffer cuts off it is the guard of what is there; past the buffer's end
+ * it is 0, the guard of no bytes.
+ *
+ *   lent      bytes: any number, read
+ *   refusals  none
+ */
+struct irumbolai_guards {
+    uint16_t guard[16];
+};
+
+struct irumbolai_guards irumbolai_guards(const uint8_t *bytes, size_t length, size_t stride);
+
+/*
  * Guards from guards and lengths, without the bytes. These four refuse nothing, and take a number that is no run's
  * guard through the same sums. A length is a number of bytes. They look at no byte: a call costs one multiplication for
  * each bit of the length that is one, so 32 at most.

@@ -1,6 +1,6 @@
 //! The calls of include/irumbolai.h that are measured, on the one array of this program.
 
-use crate::stripes::{MEMBERS, STRIPES, VOLUME, Verdict};
+use crate::stripes::{BLOCK, MEMBERS, STRIPES, VOLUME, Verdict};
 
 #[repr(C)]
 struct Answer {
@@ -27,12 +27,18 @@ struct Taken {
     state: Scan,
 }
 
+#[repr(C)]
+struct Guards {
+    guard: [u16; MEMBERS],
+}
+
 mod c {
-    use super::{Answer, Scan, Taken};
+    use super::{Answer, Guards, Scan, Taken};
 
     #[rustfmt::skip]
     unsafe extern "C" {
         pub fn irumbolai_guard(bytes: *const u8, length: usize) -> u16;
+        pub fn irumbolai_guards(bytes: *const u8, length: usize, stride: usize) -> Guards;
         pub fn irumbolai_join(a: u16, b: u16, length_of_b: u32) -> u16;
         pub fn irumbolai_seal(members: usize, stripes: u64, volume: u8, stripe: u64, data: *const u8, data_length: usize, bytes: *mut u8, length: usize) -> u32;
         pub fn irumbolai_rebuild(members: usize, stripes: u64, volume: u8, stripe: u64, member: usize, bytes: *mut u8, length: usize) -> u32;
@@ -48,6 +54,11 @@ mod c {
 
 pub fn guard(bytes: &[u8]) -> u16 {
     unsafe { c::irumbolai_guard(bytes.as_ptr(), bytes.len()) }
+}
+
+/// The guards of the blocks of a stripe, in one call.
+pub fn guards(bytes: &[u8]) -> [u16; MEMBERS] {
+    unsafe { c::irumbolai_guards(bytes.as_ptr(), bytes.len(), BLOCK) }.guard
 }
 
 pub fn join(a: u16, b: u16, length_of_b: u32) -> u16 {

@@ -71,7 +71,7 @@ pub const ROWS: &[Row] = &[
         bytes: DATA,
         sources: &[Source::Cache, Source::Memory],
         jobs: [
-            |_, bytes, _| guards(library::guard, bytes),
+            |_, bytes, _| together(library::guards(bytes)),
             |_, bytes, _| guards(peers::guard::<Ordinary>, bytes),
             |_, bytes, _| guards(peers::guard::<Isal>, bytes),
             |_, bytes, room| copy_blocks(bytes, room),
@@ -135,9 +135,14 @@ fn alone(guard: impl Fn(&[u8]) -> u16, bytes: &[u8]) -> u64 {
 
 /// The guards of all blocks, none of which waits for another.
 pub fn guards(guard: impl Fn(&[u8]) -> u16, bytes: &[u8]) -> u64 {
-    blocks(bytes).fold(0, |all, block| {
-        all.rotate_left(5) ^ u64::from(guard(&block[..DATA]))
-    })
+    together(blocks(bytes).map(|block| guard(&block[..DATA])))
+}
+
+/// Guards as one number.
+fn together(guards: impl IntoIterator<Item = u16>) -> u64 {
+    guards
+        .into_iter()
+        .fold(0, |all, guard| all.rotate_left(5) ^ u64::from(guard))
 }
 
 fn copy(from: &[u8], to: &mut [u8]) {

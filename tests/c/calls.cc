@@ -65,6 +65,12 @@ static void places()
     const uint8_t one = 1;
     DUE(irumbolai_guard(&one, 1), 0x8BB7);
     DUE(irumbolai_guard(&one, 0), 0);
+    const uint8_t three[3] = {1, 0, 2};
+    const struct irumbolai_guards guards = irumbolai_guards(three, 3, 2);
+    DUE(guards.guard[0], irumbolai_guard(three, 3));
+    DUE(guards.guard[1], 0x9CD9);
+    DUE(guards.guard[2], 0);
+    DUE(guards.guard[15], 0);
 
     DUE(irumbolai_join(0x8BB7, 0x9CD9, 2), 0xE2BF);
     DUE(irumbolai_add_zeros(1, 2), 0x8BB7);

@@ -62,12 +62,19 @@ pub struct Taken {
     pub state: Scan,
 }
 
+#[repr(C)]
+#[derive(Clone, Copy, Debug, PartialEq)]
+pub struct Guards {
+    pub guard: [u16; 16],
+}
+
 mod c {
-    use super::{Check, Owner, Place, Quick, Read, Scan, Taken, Verdict};
+    use super::{Check, Guards, Owner, Place, Quick, Read, Scan, Taken, Verdict};
 
     #[rustfmt::skip]
     unsafe extern "C" {
         pub fn irumbolai_guard(bytes: *const u8, length: usize) -> u16;
+        pub fn irumbolai_guards(bytes: *const u8, length: usize, stride: usize) -> Guards;
         pub fn irumbolai_join(a: u16, b: u16, length_of_b: u32) -> u16;
         pub fn irumbolai_add_zeros(guard: u16, n: u32) -> u16;
         pub fn irumbolai_remove_zeros(guard: u16, n: u32) -> u16;
@@ -92,6 +99,10 @@ mod c {
 
 pub fn guard(bytes: &Lent<u8>) -> u16 {
     unsafe { c::irumbolai_guard(bytes.pointer(), bytes.length()) }
+}
+
+pub fn guards(bytes: &Lent<u8>, stride: usize) -> [u16; 16] {
+    unsafe { c::irumbolai_guards(bytes.pointer(), bytes.length(), stride) }.guard
 }
 
 /// The guard of bytes where they lie.

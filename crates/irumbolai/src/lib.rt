@@ -9,11 +9,18 @@ ghost use mathlib.Core.Path.{_≡_};
 ghost use mathlib.Core.List.{_∷_};
 ghost use Prim.Native.Nat.{_<_};
 ghost use lib.ListN.{getD};
+ghost use Rattle.crc.specs.Blocks.{guardsOf};
 ghost use Rattle.crc.specs.Guard.{guard};
 ghost use Rattle.stripe.specs.Verdicts.{verdictNumbers, scrubbedNumbers};
 ghost use Rattle.irumbolai.specs.Answers.{unflagged, verdictFields};
 use stripe::Scrubbed;
 use stripe::Verdict;
+
+// The guards of many blocks.
+#[repr(C)]
+pub struct GuardsAnswer {
+    pub guard: [u16; 16],
+}
 
 // Where a block lies.
 #[repr(C)]
@@ -89,6 +96,15 @@ pub extern "C" fn irumbolai_guard(bytes: &[u8]) -> u16
     ensures { λ r. ⌜ r ≡ guard (now (bytes .entry)) ⌝ }
 {
     fold::guard(bytes)
+}
+
+// The guards of sixteen runs of 512 bytes, each `stride` bytes after the one before.
+#[no_mangle]
+pub extern "C" fn irumbolai_guards(bytes: &[u8], stride: usize) -> GuardsAnswer
+    ensures { λ r. ⌜ r .guard ≡ guardsOf 16 stride (now (bytes .entry)) ⌝ }
+{
+    let guard = fold::guards(bytes, stride);
+    GuardsAnswer { guard }
 }
 
 // A verdict for C.

@@ -11,6 +11,8 @@ const BLOCK: usize = 512;
 const SHORT: usize = 64;
 const RANDOM: usize = 80_000;
 const ALIGNMENTS: usize = 64;
+const RUNS: usize = 16;
+const MANY: usize = 20_000;
 
 /// One input: counted, or the difference.
 fn same(what: &str, bytes: &[u8], count: &mut u64) -> Outcome<()> {
@@ -64,11 +66,45 @@ fn aligned(random: &mut Random, count: &mut u64) -> Outcome<()> {
     Ok(())
 }
 
+/// The guards of sixteen runs at once: whole stripes and parts of them, buffers that end anywhere, any stride.
+fn side_by_side(random: &mut Random, count: &mut u64) -> Outcome<()> {
+    const WHOLE: usize = RUNS * (BLOCK + 8);
+    let mut bytes = [0; WHOLE + BLOCK];
+    for turn in 0..MANY {
+        let stride = match turn % 4 {
+            0 => BLOCK,
+            1 => BLOCK + 8,
+            2 => random.below(2 * BLOCK),
+            _ => usize::MAX >> random.below(usize::BITS as usize),
+        };
+        let length = match turn % 3 {
+            0 => (RUNS - random.below(RUNS)) * (BLOCK + 8),
+            1 => (RUNS - 1 - random.below(8)) * BLOCK,
+            _ => random.below(WHOLE + BLOCK),
+        };
+        random.fill(&mut bytes[..length]);
+        let lent = Lent::new(&bytes[..length]);
+        let library = library::guards(&lent, stride);
+        lent.kept("sixteen runs")?;
+        for (run, library) in library.into_iter().enumerate() {
+            let from = run.saturating_mul(stride).min(length);
+            let model = guard(&bytes[from..length.min(from + BLOCK)]);
+            if model != library {
+                return Err(format!(
+                    "run {run} of {length} bytes at stride {stride}: the model has {model:04X}, the library {library:04X}"
+                ));
+            }
+        }
+        *count += 1;
+    }
+    Ok(())
+}
+
 pub fn compare(random: &mut Random) -> Outcome<String> {
     let zeros = [0x00; LONGEST];
     let ones = [0xFF; LONGEST];
     let mut bytes = [0; LONGEST];
-    let (mut each, mut single, mut mixed, mut anywhere) = (0, 0, 0, 0);
+    let (mut each, mut single, mut mixed, mut anywhere, mut many) = (0, 0, 0, 0, 0);
     for length in 0..=LONGEST {
         same("all 00", &zeros[..length], &mut each)?;
         same("all FF", &ones[..length], &mut each)?;
@@ -85,9 +121,11 @@ pub fn compare(random: &mut Random) -> Outcome<String> {
         same("random", &bytes[..length], &mut mixed)?;
     }
     aligned(random, &mut anywhere)?;
+    side_by_side(random, &mut many)?;
     Ok(format!(
         "{} inputs alike: {each} at every length from 0 to {LONGEST} (all 00, all FF, random), \
-         {single} with a single bit, {mixed} random, {anywhere} at every length and every alignment below {ALIGNMENTS}",
+         {single} with a single bit, {mixed} random, {anywhere} at every length and every alignment below {ALIGNMENTS}; \
+         and {many} buffers of sixteen runs each",
         each + single + mixed + anywhere
     ))
 }
