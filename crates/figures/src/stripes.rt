@@ -4,11 +4,11 @@ use crate::text::named;
 use crate::text::two_digits;
 use layout::Array;
 use libc::STDOUT_FILENO;
-use stripe::Compared;
 use stripe::Reading;
-use stripe::Scrubbed;
-use stripe::Verdict;
 use tag::pair;
+use verdict::Compared;
+use verdict::Scrubbed;
+use verdict::Verdict;
 
 // Three members, one stripe, volume 7.
 fn three() -> Array {
@@ -139,7 +139,7 @@ fn byte_at(bytes: &[u8], at: usize) -> u8 {
 fn quick(bytes: &[u8]) {
     io::write_all(STDOUT_FILENO, b"quick scrub                  ");
     let guards = [stored(bytes, 512), stored(bytes, 1032), stored(bytes, 1552)];
-    let compared = stripe::quick_scrub(&guards);
+    let compared = verdict::quick_scrub(&guards);
     match compared {
         Compared::Refused(number) => named(b"refusal ", number as u64),
         Compared::Fits => {

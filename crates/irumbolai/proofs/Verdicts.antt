@@ -12,13 +12,14 @@ use Rattle.layout.specs.Answers.{refuse, answer}
 use Rattle.layout.specs.declared.Array.{Array}
 use Rattle.layout.proofs.Answers.{refuse-none}
 use Rattle.layout.proofs.Ranges.{stripe-sound}
+use Rattle.verdict.specs.Verdicts.{count, lowest, judgedBy, judged}
+use Rattle.verdict.proofs.Flags.{count-most}
+use Rattle.verdict.proofs.Verdicts.{length-nonzero, judged-refused}
 use Rattle.stripe.specs.Tables.{table, all}
 use Rattle.stripe.specs.Stripes.{blockOf}
 use Rattle.stripe.specs.Formats.{Summary, t10, whole, dataIn, summaryOf}
-use Rattle.stripe.specs.Verdicts.{count, lowest, badMembers, tornPlaces, judgedBy, judged, verdict, scrubRefusal, scrubNumbers}
+use Rattle.stripe.specs.Verdicts.{badMembers, tornPlaces, verdict, scrubRefusal, scrubNumbers}
 use Rattle.stripe.proofs.Tables.{length-table}
-use Rattle.stripe.proofs.Flags.{count-most}
-use Rattle.stripe.proofs.Verdicts.{length-nonzero, judged-refused}
 use Rattle.stripe.proofs.Scrubs.{scrub-sound}
 use Rattle.scan.specs.declared.Scan.{Scan}
 use Rattle.scan.specs.Scans.{fit, heldSummary, finishRefusal, finishNumbers}

@@ -11,10 +11,10 @@ ghost use Prim.Native.Nat.{_<_};
 ghost use lib.ListN.{getD};
 ghost use Rattle.crc.specs.Blocks.{guardsOf};
 ghost use Rattle.crc.specs.Guard.{guard};
-ghost use Rattle.stripe.specs.Verdicts.{verdictNumbers, scrubbedNumbers};
+ghost use Rattle.verdict.specs.Verdicts.{verdictNumbers, scrubbedNumbers};
 ghost use Rattle.irumbolai.specs.Answers.{unflagged, verdictFields};
-use stripe::Scrubbed;
-use stripe::Verdict;
+use verdict::Scrubbed;
+use verdict::Verdict;
 
 // The guards of many blocks.
 #[repr(C)]

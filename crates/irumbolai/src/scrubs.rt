@@ -3,9 +3,10 @@ use crate::QuickAnswer;
 use crate::VerdictAnswer;
 use crate::verdict_answer;
 use layout::Array;
-use stripe::Compared;
+use verdict::Compared;
 ghost use mathlib.Core.Path.{_≡_};
-ghost use Rattle.stripe.specs.Verdicts.{scrubNumbers, comparedNumbers, quickNumbers};
+ghost use Rattle.verdict.specs.Verdicts.{comparedNumbers, quickNumbers};
+ghost use Rattle.stripe.specs.Verdicts.{scrubNumbers};
 ghost use Rattle.irumbolai.specs.Answers.{arrayOf, unflagged, verdictFields, quickFields};
 
 // The full scrub of a stripe.
@@ -61,5 +62,5 @@ fn quick_answer(compared: Compared) -> QuickAnswer
 pub extern "C" fn irumbolai_quick_scrub(guards: &[u16]) -> QuickAnswer
     ensures { λ r. ⌜ quickFields r ≡ unflagged (quickNumbers (now (guards .entry))) ⌝ }
 {
-    quick_answer(stripe::quick_scrub(guards))
+    quick_answer(verdict::quick_scrub(guards))
 }

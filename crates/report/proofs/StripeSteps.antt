@@ -5,10 +5,10 @@ use Prim.Native.Nat.{ℕ, _+_, _*_, _/_, _≤_, _<_}
 use native.Mathlib.Nat.{zero-add}
 use borrow.Author.Tests.{lt-ltb, le-ltb}
 use lib.ListN.{length}
-use Rattle.stripe.specs.declared.Verdict.{Verdict}
-use Rattle.stripe.specs.declared.Scrubbed.{Scrubbed}
-use Rattle.stripe.specs.declared.Scrubbed.the-variants.{Refused, Found}
-use Rattle.stripe.specs.Verdicts.{verdictNumbers, scrubbedNumbers}
+use Rattle.verdict.specs.declared.Verdict.{Verdict}
+use Rattle.verdict.specs.declared.Scrubbed.{Scrubbed}
+use Rattle.verdict.specs.declared.Scrubbed.the-variants.{Refused, Found}
+use Rattle.verdict.specs.Verdicts.{verdictNumbers, scrubbedNumbers}
 use Rattle.scan.specs.declared.Scan.{Scan}
 use Rattle.scan.specs.Scans.{startState, startWork, pieceState, pieceWork, finishNumbers}
 use Rattle.report.specs.declared.Report.{Report}

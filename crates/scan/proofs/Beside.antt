@@ -20,9 +20,10 @@ use Rattle.layout.proofs.Answers.{refuse-none}
 use Rattle.layout.proofs.Ranges.{Sound}
 use Rattle.tag.specs.Blocks.{dataLength, dataOf}
 use Rattle.tag.proofs.Numbers.{bytes-joined}
+use Rattle.verdict.specs.Verdicts.{quickNumbers}
 use Rattle.stripe.specs.Tables.{all}
 use Rattle.stripe.specs.Formats.{t10, whole}
-use Rattle.stripe.specs.Verdicts.{verdict, scrubBlocks, storedGuard, quickNumbers}
+use Rattle.stripe.specs.Verdicts.{verdict, scrubBlocks, storedGuard}
 use Rattle.stripe.proofs.Quick.{Whole, fits-where-zero, differs-within}
 use Rattle.scan.specs.History.{Call, piece, finish, begun, kept, pieceNumber, finishNumber}
 use Rattle.scan.proofs.Finishes.{all-whole}

@@ -12,9 +12,10 @@ use Rattle.layout.specs.Places.{ownerRefusal}
 use Rattle.tag.specs.Tags.{found, due, dueAt, fits}
 use Rattle.tag.specs.declared.Fields.{Fields}
 use Rattle.tag.proofs.Expected.{due-somewhere}
+use Rattle.verdict.specs.Verdicts.{count, lowest, nonzero, judgedBy, judged}
 use Rattle.stripe.specs.Tables.{span}
 use Rattle.stripe.specs.Formats.{t10, Summary}
-use Rattle.stripe.specs.Verdicts.{count, lowest, nonzero, badMembers, tornPlaces, judgedBy, judged, verdict}
+use Rattle.stripe.specs.Verdicts.{badMembers, tornPlaces, verdict}
 use Rattle.stripe.proofs.Tables.{length-table, getD-table, table-ext}
 use Rattle.scan.specs.declared.Scan.{Scan}
 use Rattle.scan.specs.Scans.{heldSummary, finishRefusal, finishNumbers}

@@ -6,12 +6,13 @@ use mathlib.Core.List.{List, [], _∷_}
 use Prim.Native.Nat.{ℕ, zero, suc}
 use lib.Dec.{ltb}
 use lib.ListN.{length}
-use Rattle.stripe.specs.declared.Verdict.{Verdict}
-use Rattle.stripe.specs.declared.Verdict.the-variants.{Clean, Bad, Torn}
-use Rattle.stripe.specs.declared.Scrubbed.{Scrubbed}
-use Rattle.stripe.specs.declared.Scrubbed.the-variants.{Refused, Found}
+use Rattle.verdict.specs.declared.Verdict.{Verdict}
+use Rattle.verdict.specs.declared.Verdict.the-variants.{Clean, Bad, Torn}
+use Rattle.verdict.specs.declared.Scrubbed.{Scrubbed}
+use Rattle.verdict.specs.declared.Scrubbed.the-variants.{Refused, Found}
+use Rattle.verdict.specs.Verdicts.{count, lowest, judgedBy, judged, verdictNumbers, scrubbedNumbers}
 use Rattle.stripe.specs.Formats.{t10}
-use Rattle.stripe.specs.Verdicts.{count, lowest, badMembers, tornPlaces, judgedBy, judged, verdictNumbers, scrubbedNumbers}
+use Rattle.stripe.specs.Verdicts.{badMembers, tornPlaces}
 use Rattle.scan.specs.declared.Scan.{Scan}
 use Rattle.scan.specs.declared.Taken.{Taken}
 use Rattle.scan.specs.History.{Call, piece, finish}

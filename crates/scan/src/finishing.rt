@@ -4,15 +4,15 @@ ghost use Prim.Native.Nat.{_*_, _≤_};
 ghost use lib.ListN.{length, getD};
 ghost use Rattle.layout.specs.Arrays.{stripeRefusal};
 ghost use Rattle.layout.specs.Places.{ownerRefusal};
-ghost use Rattle.stripe.specs.Verdicts.{count, lowest, scrubbedNumbers};
+ghost use Rattle.verdict.specs.Verdicts.{count, lowest, scrubbedNumbers};
 ghost use Rattle.scan.specs.Scans.{finishRefusal, finishNumbers};
 ghost use Rattle.scan.specs.Steps.{allWhole, goodHeld, badHeld};
 use crate::Scan;
 use crate::fit;
-use stripe::Scrubbed;
 use tag::BLOCK;
 use tag::DATA;
 use tag::TAG;
+use verdict::Scrubbed;
 
 // The bad members of a stripe: the lowest of them, and how many they are.
 struct BadMembers {
@@ -96,5 +96,5 @@ pub fn finish(state: Scan, work: &[u8]) -> Scrubbed
         return Scrubbed::Refused(refusal);
     }
     let bad = bad_members(state);
-    Scrubbed::Found(stripe::judge(bad.lowest, bad.count, work))
+    Scrubbed::Found(verdict::judge(bad.lowest, bad.count, work))
 }

@@ -14,9 +14,9 @@ use Rattle.crc.specs.Guard.{guard}
 use Rattle.crc.specs.Blocks.{guardsOf}
 use Rattle.crc.proofs.Linear.{guard-linear}
 use Rattle.tag.specs.Blocks.{dataOf}
+use Rattle.verdict.specs.Verdicts.{combinedGuards}
 use Rattle.stripe.specs.Tables.{table, span, part}
 use Rattle.stripe.specs.Stripes.{blockOf, othersData}
-use Rattle.stripe.specs.Verdicts.{combinedGuards}
 use Rattle.stripe.proofs.Tables.{length-table, getD-table, table-ext, take-table, map-table}
 use Rattle.stripe.proofs.Rows.{length-span, length-othersData}
 use Rattle.stripe.proofs.Parity.{all-with-others}

@@ -12,12 +12,10 @@ pub mod Restores
 pub mod Served
 pub mod Updates
 pub mod Updated
-pub mod Flags
 pub mod Injective
 pub mod Verdicts
 pub mod Scrubs
 pub mod Quick
-pub mod Greatest
 pub mod Guards
 pub mod Torn
 pub mod Clean

@@ -2,18 +2,15 @@
 -- where the data combine to zero, and differs wherever they do not and all one bits lie within sixteen successive bits.
 -- Assumes nothing.
 use mathlib.Core.Path.{_≡_, refl, sym, ap, ap₂, _∙_}
-use mathlib.Core.Bool.{Bool, true, false, not, cond, _&&_}
+use mathlib.Core.Bool.{true}
 use mathlib.Core.List.{List, [], _∷_, map}
 use mathlib.Core.Logic.{_≢_}
 use Prim.Native.Nat.{ℕ, zero, suc, _+_, _≤_, _<_, suc-le-suc}
 use native.Mathlib.Nat.{zero-lt-suc, le-of-suc-le-suc, not-suc-le-zero}
-use native.Mathlib.Numerals.{add-one}
 use native.Mathlib.Omega.{arith}
-use borrow.Author.Tests.{ne-eqb, lt-leb}
 use lib.Bits.{bitXor, xor-self, xor-zero-r}
-use lib.Dec.{leb, eqb, lit<}
-use lib.ListN.{length, getD, drop, replicate, length-map, length-replicate, drop-of-length-le}
-use lib.Seq.{drop-cons}
+use lib.Dec.{lit<}
+use lib.ListN.{length, getD, replicate, length-map, length-replicate}
 use Rattle.xor.specs.Xors.{xors, addAll, combination}
 use Rattle.xor.proofs.Bits.{xor-assoc}
 use Rattle.xor.proofs.Lists.{length-xors, xors-self}
@@ -22,18 +19,17 @@ use Rattle.crc.specs.Crc.{bitsOf, Bytes, Within}
 use Rattle.crc.specs.Guard.{guard}
 use Rattle.crc.proofs.Linear.{guard-linear, bitsOf-xors}
 use Rattle.crc.proofs.Noticed.{noticed}
-use Rattle.layout.specs.Answers.{refuse}
-use Rattle.layout.specs.Arrays.{within}
 use Rattle.layout.specs.declared.Array.{Array}
-use Rattle.layout.proofs.Answers.{answer-refused, refuse-none}
-use Rattle.layout.proofs.Ranges.{Sound, within-range, range-within}
+use Rattle.layout.proofs.Ranges.{Sound}
 use Rattle.tag.specs.Blocks.{dataLength, blockLength, dataOf}
 use Rattle.tag.specs.Tags.{due, good}
 use Rattle.tag.specs.declared.Fields.{Fields}
 use Rattle.tag.proofs.Fits.{good-fields}
 use Rattle.tag.proofs.Tagged.{length-data, bytes-of-data}
-use Rattle.stripe.specs.Verdicts.{storedGuard, combinedGuards, quickRefusal, quickNumbers, scrubBlocks}
-use Rattle.stripe.proofs.Verdicts.{zeros-at}
+use Rattle.verdict.specs.Verdicts.{combinedGuards, quickRefusal, quickNumbers}
+use Rattle.verdict.proofs.Verdicts.{zeros-at}
+use Rattle.verdict.proofs.Quick.{sound-quick, quick-fits, quick-differs}
+use Rattle.stripe.specs.Verdicts.{storedGuard, scrubBlocks}
 use Rattle.stripe.proofs.Scrubs.{blocks-good}
 
 -- ---- the guard of a combination
@@ -57,52 +53,6 @@ pub guard-combination : (n : ℕ) (runs : List (List ℕ)) → ((i : ℕ) → i 
 guard-combination n runs long =
     guard-addAll (replicate n 0) runs (λ i h. long i h ∙ sym (length-replicate {A = ℕ} n 0))
     ∙ ap (λ (g : ℕ). bitXor g (combinedGuards (map guard runs))) (guard-zeros n)
-
--- ---- the loop over the guards: one more, and its end
-
-pub guards-turn : (c : ℕ) (guards : List ℕ) (i : ℕ) → i < length guards
-    → bitXor (bitXor c (getD guards i 0)) (combinedGuards (drop (i + 1) guards)) ≡ bitXor c (combinedGuards (drop i guards))
-guards-turn c guards i h =
-    rw (add-one, drop-cons guards i 0) (xor-assoc c (getD guards i 0) (combinedGuards (drop (suc i) guards)))
-
-pub guards-end : (c : ℕ) (guards : List ℕ) (i : ℕ) → length guards ≤ i → c ≡ bitXor c (combinedGuards (drop i guards))
-guards-end c guards i h = rw (drop-of-length-le guards h) (sym (xor-zero-r c))
-
--- ---- the answer, from the combination of the guards
-
--- refused exactly where their number is not 3 to 16
-pub sound-quick : (n : ℕ) → 3 ≤ n → n ≤ 16 → quickRefusal n ≡ 0
-unfolding quickRefusal
-sound-quick n few many = rw (range-within 3 16 n few many)
-
-pub quick-sound : (n : ℕ) → quickRefusal n ≡ 0 → (3 ≤ n) × (n ≤ 16)
-unfolding quickRefusal
-quick-sound n e = within-range 3 16 n (refuse-none (within 3 16 n) 0 0 e .0)
-
-pub few-refused : (n : ℕ) → n < 3 → quickRefusal n ≡ 1
-unfolding quickRefusal
-few-refused n h = rw (lt-leb 3 n h)
-
-pub many-refused : (n : ℕ) → 16 < n → quickRefusal n ≡ 1
-unfolding quickRefusal
-many-refused n h = rw (lt-leb n 16 h) (by-test (leb 3 n))
-  where
-    by-test : (t : Bool) → refuse (not (t && false)) 1 0 ≡ 1
-    by-test true = refl
-    by-test false = refl
-
-module _ (guards : List ℕ) where
-  pub quick-refused : quickRefusal (length guards) ≢ 0 → quickNumbers guards ≡ 0 ∷ quickRefusal (length guards) ∷ 0 ∷ 0 ∷ []
-  unfolding quickNumbers
-  quick-refused h = answer-refused (quickRefusal (length guards)) (cond (eqb (combinedGuards guards) 0) 0 1 ∷ combinedGuards guards ∷ []) h
-
-  pub quick-fits : quickRefusal (length guards) ≡ 0 → combinedGuards guards ≡ 0 → quickNumbers guards ≡ 1 ∷ 0 ∷ 0 ∷ 0 ∷ []
-  unfolding quickNumbers
-  quick-fits sound e = rw (sound, e)
-
-  pub quick-differs : quickRefusal (length guards) ≡ 0 → combinedGuards guards ≢ 0 → quickNumbers guards ≡ 1 ∷ 0 ∷ 1 ∷ combinedGuards guards ∷ []
-  unfolding quickNumbers
-  quick-differs sound h = rw (sound, ne-eqb (combinedGuards guards) 0 h)
 
 -- ---- whole blocks, as many as the array has members
 

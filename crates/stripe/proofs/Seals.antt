@@ -27,10 +27,10 @@ use Rattle.layout.proofs.Members.{parity-below, member-below, member-not-parity
 use Rattle.tag.specs.Blocks.{dataOf}
 use Rattle.tag.specs.Tags.{tagged}
 use Rattle.tag.proofs.Tagged.{length-tagged, data-of-tagged}
+use Rattle.verdict.specs.Verdicts.{combinedGuards}
 use Rattle.stripe.specs.Tables.{table, others, joined, part, span}
 use Rattle.stripe.specs.Stripes.{stripeLength, blockOf, memberData, othersData}
 use Rattle.stripe.specs.Jobs.{withBlock, dataBlock, dataWritten, parityOf, sealedData, sealed, sealRefusal, sealBytes}
-use Rattle.stripe.specs.Verdicts.{combinedGuards}
 use Rattle.stripe.proofs.Tables.{table-ext}
 use Rattle.stripe.proofs.Rows.{length-span, length-othersData}
 use Rattle.stripe.proofs.Guards.{parts-guard}

@@ -23,19 +23,21 @@ use Rattle.tag.specs.Blocks.{dataLength, blockLength, dataOf}
 use Rattle.tag.specs.Tags.{good, tagged}
 use Rattle.tag.proofs.Numbers.{bytes-joined}
 use Rattle.tag.proofs.Tagged.{length-tagged, data-of-tagged, tagged-good, bytes-tagged}
+use Rattle.verdict.specs.Verdicts.{combinedGuards, quickNumbers}
+use Rattle.verdict.proofs.Verdicts.{FirstNonzero}
+use Rattle.verdict.proofs.Quick.{sound-quick, quick-fits, quick-differs}
 use Rattle.stripe.specs.Tables.{joined}
 use Rattle.stripe.specs.Stripes.{stripeLength, blockOf, memberData, othersData}
 use Rattle.stripe.specs.Jobs.{rebuildRefusal, rebuilt}
-use Rattle.stripe.specs.Verdicts.{storedGuard, combinedGuards, quickNumbers, scrubBlocks}
+use Rattle.stripe.specs.Verdicts.{storedGuard, scrubBlocks}
 use Rattle.stripe.proofs.Tables.{table-ext}
 use Rattle.stripe.proofs.Blocks.{span-joined, length-joined}
 use Rattle.stripe.proofs.Others.{good-others}
 use Rattle.stripe.proofs.Rebuilds.{rebuild-others}
 use Rattle.stripe.proofs.Parity.{all-with-others}
 use Rattle.stripe.proofs.Restores.{rebuilt-data, rebuilt-good}
-use Rattle.stripe.proofs.Verdicts.{FirstNonzero}
 use Rattle.stripe.proofs.Scrubs.{blocks-torn}
-use Rattle.stripe.proofs.Quick.{Whole, bytes-zeros, guard-zeros, sound-quick, quick-fits, quick-differs, guards-combined}
+use Rattle.stripe.proofs.Quick.{Whole, bytes-zeros, guard-zeros, guards-combined}
 
 abbrev pub bench : Array
 bench = record { members = 3; stripes = 1; volume = 7 }

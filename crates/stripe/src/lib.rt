@@ -6,8 +6,6 @@ mod serving;
 mod updating;
 
 pub use rebuilding::rebuild;
-pub use scrubbing::judge;
-pub use scrubbing::quick_scrub;
 pub use scrubbing::scrub;
 pub use sealing::seal;
 pub use serving::read;
@@ -26,7 +24,6 @@ ghost use Rattle.tag.specs.Blocks.{dataOf};
 ghost use Rattle.tag.specs.Tags.{good, tagged};
 ghost use Rattle.stripe.specs.Stripes.{stripeLength, blockOf, saysGood, goodMembers, othersGood, othersData};
 ghost use Rattle.stripe.specs.Jobs.{withBlock};
-ghost use Rattle.stripe.specs.Verdicts.{combinedGuards};
 use layout::Array;
 use tag::BLOCK;
 use tag::Checked;
@@ -85,27 +82,6 @@ fn combined(bytes: &[u8], members: usize, skip: usize, out: &mut [u8])
         put(out, at, &row);
         at += ROW;
     }
-}
-
-// What a scrub finds in a stripe: every member good and parity right; the lowest of `count` bad members; or, with every
-// member good, the lowest place where the members' data do not combine to zero (01 calls such a stripe torn).
-pub enum Verdict {
-    Clean,
-    Bad { member: usize, count: usize },
-    Torn { place: usize },
-}
-
-// A scrub refused, or its verdict.
-pub enum Scrubbed {
-    Refused(u8),
-    Found(Verdict),
-}
-
-// What the quick scrub says of the stored guards: they combine to zero, or to something else.
-pub enum Compared {
-    Refused(u8),
-    Fits,
-    Differs { combination: u16 },
 }
 
 // Whether a check found the block good.
@@ -189,19 +165,6 @@ fn others_good(array: Array, stripe: u64, bytes: &[u8], skip: usize, guards: [u1
         member += 1;
     }
     true
-}
-
-// The exclusive-or of guards.
-fn combined_guards(guards: &[u16]) -> u16
-    ensures { λ r. ⌜ r ≡ combinedGuards (now (guards .entry)) ⌝ }
-{
-    let mut combined: u16 = 0;
-    let mut next: usize = 0;
-    while next < guards.len() {
-        combined = combined ^ guards[next];
-        next += 1;
-    }
-    combined
 }
 
 // Writes a block at its place: the data, and the tag due there by the data's guard.

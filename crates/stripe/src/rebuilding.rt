@@ -5,11 +5,11 @@ ghost use lib.ListN.{length};
 ghost use Rattle.crc.specs.Blocks.{guardsOf};
 ghost use Rattle.stripe.specs.Jobs.{rebuildRefusal, rebuildBytes};
 use crate::combined;
-use crate::combined_guards;
 use crate::others_good;
 use crate::write_block;
 use layout::Array;
 use tag::BLOCK;
+use verdict::combined_guards;
 
 // The refusal number of a rebuild: the place's own, the stripe's length, then whether every other member is good by its guard.
 fn rebuild_refusal(array: Array, stripe: u64, member: usize, bytes: &[u8], guards: [u16; 16]) -> u8

@@ -1,27 +1,11 @@
-// The full scrub of a stripe, and the quick scrub of its stored guards.
-use crate::Compared;
-use crate::Scrubbed;
-use crate::Verdict;
+// The full scrub of a stripe.
 use layout::Array;
 use tag::BLOCK;
+use verdict::Scrubbed;
 ghost use mathlib.Core.Path.{_≡_};
-ghost use Prim.Native.Nat.{max};
-ghost use lib.Dec.{eqb};
 ghost use lib.ListN.{length};
-ghost use Rattle.stripe.specs.Verdicts.{
-  count,
-  lowest,
-  nonzero,
-  badBlocks,
-  judgedBy,
-  verdictNumbers,
-  scrubRefusal,
-  scrubNumbers,
-  scrubbedNumbers,
-  quickRefusal,
-  quickNumbers,
-  comparedNumbers,
-};
+ghost use Rattle.verdict.specs.Verdicts.{count, lowest, scrubbedNumbers};
+ghost use Rattle.stripe.specs.Verdicts.{badBlocks, scrubRefusal, scrubNumbers};
 
 // The bad members of a stripe: the lowest of them, and how many they are.
 struct BadMembers {
@@ -47,60 +31,6 @@ fn bad_members(array: Array, stripe: u64, bytes: &[u8]) -> BadMembers
         }
     }
     BadMembers { lowest, count }
-}
-
-// The greater of two bytes.
-fn most(a: u8, b: u8) -> u8
-    ensures { λ r. ⌜ r ≡ max a b ⌝ }
-{
-    if a < b { b } else { a }
-}
-
-// Whether no byte differs from zero: the greatest does not.
-fn all_zero(bytes: &[u8]) -> bool
-    ensures { λ r. ⌜ r ≡ eqb (count (nonzero (now (bytes .entry)))) 0 ⌝ }
-{
-    let mut greatest: u8 = 0;
-    let mut i: usize = 0;
-    while i < bytes.len() {
-        greatest = most(greatest, bytes[i]);
-        i += 1;
-    }
-    greatest == 0
-}
-
-// The first place that is not zero, or the length where there is none.
-fn first_nonzero(bytes: &[u8]) -> usize
-    ensures { λ r. ⌜ r ≡ lowest (nonzero (now (bytes .entry))) ⌝ }
-{
-    if all_zero(bytes) {
-        return bytes.len();
-    }
-    let mut place: usize = 0;
-    while place < bytes.len() {
-        if bytes[place] != 0 {
-            return place;
-        }
-        place += 1;
-    }
-    place
-}
-
-// The verdict on a stripe with so many bad members, of which `member` is the lowest, and such combined data.
-pub fn judge(member: usize, bads: usize, combined: &[u8]) -> Verdict
-    ensures { λ r. ⌜ verdictNumbers r ≡ judgedBy member bads (nonzero (now (combined .entry))) ⌝ }
-{
-    if 0 < bads {
-        return Verdict::Bad {
-            member,
-            count: bads,
-        };
-    }
-    let place = first_nonzero(combined);
-    if place < combined.len() {
-        return Verdict::Torn { place };
-    }
-    Verdict::Clean
 }
 
 // The refusal number of a scrub: the stripe's own, then 6 where the stripe in memory has another length.
@@ -130,34 +60,6 @@ pub fn scrub(array: Array, stripe: u64, bytes: &[u8]) -> Scrubbed
     let bad = bad_members(array, stripe, bytes);
     let mut data = [0u8; 512];
     crate::combined(bytes, members, members, &mut data);
-    let verdict = judge(bad.lowest, bad.count, &data);
+    let verdict = verdict::judge(bad.lowest, bad.count, &data);
     Scrubbed::Found(verdict)
-}
-
-// The refusal number of so many guards.
-fn quick_refusal(guards: usize) -> u8
-    ensures { λ r. ⌜ r ≡ quickRefusal guards ⌝ }
-{
-    if guards < 3 {
-        return 1;
-    }
-    if 16 < guards {
-        return 1;
-    }
-    0
-}
-
-// The stored guards of a stripe compared: they fit where they combine to zero.
-pub fn quick_scrub(guards: &[u16]) -> Compared
-    ensures { λ r. ⌜ comparedNumbers r ≡ quickNumbers (now (guards .entry)) ⌝ }
-{
-    let refusal = quick_refusal(guards.len());
-    if refusal != 0 {
-        return Compared::Refused(refusal);
-    }
-    let combination = crate::combined_guards(guards);
-    if combination == 0 {
-        return Compared::Fits;
-    }
-    Compared::Differs { combination }
 }

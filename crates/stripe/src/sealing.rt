@@ -9,11 +9,11 @@ ghost use Rattle.layout.specs.Places.{ownerRefusal, isParity};
 ghost use Rattle.stripe.specs.Stripes.{stripeLength};
 ghost use Rattle.stripe.specs.Jobs.{withBlock, dataBlock, dataWritten, sealRefusal, sealBytes};
 use crate::combined;
-use crate::combined_guards;
 use crate::write_block;
 use layout::Array;
 use tag::BLOCK;
 use tag::DATA;
+use verdict::combined_guards;
 
 // The refusal number of a seal: the stripe's own, then the two lengths.
 fn seal_refusal(array: Array, stripe: u64, content: usize, length: usize) -> u8

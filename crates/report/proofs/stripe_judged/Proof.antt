@@ -1,6 +1,6 @@
 -- `report::stripe_judged` meets its contract: another stripe begins, or it was the last. Assumes nothing.
 use borrow.Author.Needs.{needs}
-use Rattle.stripe.specs.Verdicts.{verdictNumbers}
+use Rattle.verdict.specs.Verdicts.{verdictNumbers}
 use Rattle.report.proofs.StripeSteps.{next-begins, last-judged}
 use Rattle.report.proofs.stripe_judged.Statement.{statement}
 use Rattle.report.proofs.stripe_judged.Tie as tie

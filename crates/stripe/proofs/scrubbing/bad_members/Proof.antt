@@ -7,8 +7,9 @@ use native.Mathlib.Omega.{arith}
 use borrow.Author.Needs.{needs}
 use lib.ListN.{length, getD}
 use Rattle.layout.proofs.Ranges.{stripe-sound}
-use Rattle.stripe.specs.Verdicts.{lowest, count, badBlocks}
-use Rattle.stripe.proofs.Flags.{Passed, none-passed, passed-true, passed-false, passed-few, passed-all}
+use Rattle.verdict.specs.Verdicts.{lowest, count}
+use Rattle.verdict.proofs.Flags.{Passed, none-passed, passed-true, passed-false, passed-few, passed-all}
+use Rattle.stripe.specs.Verdicts.{badBlocks}
 use Rattle.stripe.proofs.Scrubs.{scrub-sound, member-place, member-room, length-badBlocks, badBlocks-at}
 use Rattle.stripe.proofs.Guards.{member-guard}
 use Rattle.stripe.proofs.scrubbing.bad_members.Statement.{statement}

@@ -1,14 +1,14 @@
--- `stripe::judge` meets its contract: bad goes before torn, and torn is where some place is not zero. Assumes nothing.
+-- `verdict::judge` meets its contract: bad goes before torn, and torn is where some place is not zero. Assumes nothing.
 use mathlib.Core.Path.{sym, ap, _∙_}
 use mathlib.Core.List.{[], _∷_}
 use Prim.Native.Nat.{ℕ, _≤_, _<_}
 use native.Mathlib.Omega.{arith}
 use borrow.Author.Needs.{needs}
 use lib.ListN.{length}
-use Rattle.stripe.specs.Verdicts.{lowest, nonzero}
-use Rattle.stripe.proofs.Verdicts.{length-nonzero, judged-by-bad, judged-by-torn, judged-by-clean}
-use Rattle.stripe.proofs.scrubbing.judge.Statement.{statement}
-use Rattle.stripe.proofs.scrubbing.judge.Tie as tie
+use Rattle.verdict.specs.Verdicts.{lowest, nonzero}
+use Rattle.verdict.proofs.Verdicts.{length-nonzero, judged-by-bad, judged-by-torn, judged-by-clean}
+use Rattle.verdict.proofs.judge.Statement.{statement}
+use Rattle.verdict.proofs.judge.Tie as tie
 
 returns : tie.Need-returns
 returns c =

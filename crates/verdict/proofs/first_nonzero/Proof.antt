@@ -1,4 +1,4 @@
--- `stripe::first_nonzero` meets its contract. The invariant: the first place that is not zero is the first of those still to come.
+-- `verdict::first_nonzero` meets its contract. The invariant: the first place that is not zero is the first of those still to come.
 -- Assumes nothing.
 use mathlib.Core.Path.{_≡_, sym, ap, _∙_}
 use mathlib.Core.Bool.{not}
@@ -7,11 +7,11 @@ use native.Mathlib.Omega.{arith}
 use borrow.Author.Needs.{needs}
 use borrow.Author.Tests.{eq-eqb, ne-eqb, eqb-true}
 use lib.ListN.{length, drop}
-use Rattle.stripe.specs.Verdicts.{count, lowest, nonzero}
-use Rattle.stripe.proofs.Flags.{lowest-none, lowest-miss, lowest-hit, lowest-end}
-use Rattle.stripe.proofs.Verdicts.{length-nonzero, nonzero-at}
-use Rattle.stripe.proofs.scrubbing.first_nonzero.Statement.{statement}
-use Rattle.stripe.proofs.scrubbing.first_nonzero.Tie as tie
+use Rattle.verdict.specs.Verdicts.{count, lowest, nonzero}
+use Rattle.verdict.proofs.Flags.{lowest-none, lowest-miss, lowest-hit, lowest-end}
+use Rattle.verdict.proofs.Verdicts.{length-nonzero, nonzero-at}
+use Rattle.verdict.proofs.first_nonzero.Statement.{statement}
+use Rattle.verdict.proofs.first_nonzero.Tie as tie
 
 abbrev Inv-loop : tie.InvT-loop
 Inv-loop bytes place₀ place = (place ≤ length bytes) × (place + lowest (drop place (nonzero bytes)) ≡ lowest (nonzero bytes))

@@ -1,4 +1,4 @@
--- `stripe::combined_guards` meets its contract. The invariant: the guards still to come, added to what is combined now, give what all give.
+-- `verdict::combined_guards` meets its contract. The invariant: the guards still to come, added to what is combined now, give what all give.
 -- Assumes nothing.
 use mathlib.Core.Path.{_≡_, refl, _∙_}
 use Prim.Native.Nat.{_-_, _≤_}
@@ -6,10 +6,10 @@ use native.Mathlib.Omega.{arith}
 use borrow.Author.Needs.{needs}
 use lib.Bits.{bitXor}
 use lib.ListN.{length, drop}
-use Rattle.stripe.specs.Verdicts.{combinedGuards}
-use Rattle.stripe.proofs.Quick.{guards-turn, guards-end}
-use Rattle.stripe.proofs.combined_guards.Statement.{statement}
-use Rattle.stripe.proofs.combined_guards.Tie as tie
+use Rattle.verdict.specs.Verdicts.{combinedGuards}
+use Rattle.verdict.proofs.Quick.{guards-turn, guards-end}
+use Rattle.verdict.proofs.combined_guards.Statement.{statement}
+use Rattle.verdict.proofs.combined_guards.Tie as tie
 
 abbrev Inv-loop : tie.InvT-loop
 Inv-loop guards combined₀ next₀ combined next = (next ≤ length guards) × (bitXor combined (combinedGuards (drop next guards)) ≡ combinedGuards guards)

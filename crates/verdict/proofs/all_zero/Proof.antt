@@ -1,4 +1,4 @@
--- `stripe::all_zero` meets its contract. The invariant: the greatest so far and that of the bytes still to come make the greatest of all.
+-- `verdict::all_zero` meets its contract. The invariant: the greatest so far and that of the bytes still to come make the greatest of all.
 -- Assumes nothing.
 use mathlib.Core.Path.{_≡_, sym, ap, _∙_}
 use Prim.Native.Nat.{ℕ, _-_, _≤_, _<_, max}
@@ -6,9 +6,9 @@ use native.Mathlib.Omega.{arith}
 use borrow.Author.Needs.{needs}
 use lib.Dec.{eqb}
 use lib.ListN.{length, drop}
-use Rattle.stripe.proofs.Greatest.{greatest, greatest-zero, greatest-next, greatest-end}
-use Rattle.stripe.proofs.scrubbing.all_zero.Statement.{statement}
-use Rattle.stripe.proofs.scrubbing.all_zero.Tie as tie
+use Rattle.verdict.proofs.Greatest.{greatest, greatest-zero, greatest-next, greatest-end}
+use Rattle.verdict.proofs.all_zero.Statement.{statement}
+use Rattle.verdict.proofs.all_zero.Tie as tie
 
 abbrev Inv-loop : tie.InvT-loop
 Inv-loop bytes greatest₀ i₀ greatest-so-far i = (i ≤ length bytes) × (max greatest-so-far (greatest (drop i bytes)) ≡ greatest bytes)

@@ -8,7 +8,7 @@ use borrow.Author.Tests.{ne-eqb}
 use lib.Dec.{eqb}
 use lib.ListN.{length, getD, drop, drop-of-length-le}
 use lib.Seq.{drop-cons}
-use Rattle.stripe.specs.Verdicts.{count, nonzero}
+use Rattle.verdict.specs.Verdicts.{count, nonzero}
 
 unfoldable pub greatest : List ℕ → ℕ
 greatest [] = 0

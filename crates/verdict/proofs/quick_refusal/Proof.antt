@@ -1,9 +1,9 @@
--- `stripe::quick_refusal` is `quickRefusal`. Assumes nothing.
+-- `verdict::quick_refusal` is `quickRefusal`. Assumes nothing.
 use native.Mathlib.Omega.{arith}
 use mathlib.Core.Path.{sym}
-use Rattle.stripe.proofs.Quick.{few-refused, many-refused, sound-quick}
-use Rattle.stripe.proofs.scrubbing.quick_refusal.Statement.{statement}
-use Rattle.stripe.proofs.scrubbing.quick_refusal.Tie as tie
+use Rattle.verdict.proofs.Quick.{few-refused, many-refused, sound-quick}
+use Rattle.verdict.proofs.quick_refusal.Statement.{statement}
+use Rattle.verdict.proofs.quick_refusal.Tie as tie
 
 returns : tie.Need-returns
 returns c = sym (few-refused (c .before .args .guards) (omega arith))

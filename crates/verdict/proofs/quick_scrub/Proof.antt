@@ -1,12 +1,12 @@
--- `stripe::quick_scrub` meets its contract: its number of guards decides whether it is refused, and their combination what it says.
+-- `verdict::quick_scrub` meets its contract: its number of guards decides whether it is refused, and their combination what it says.
 -- Assumes nothing.
 use mathlib.Core.Path.{sym, ap, _∙_}
 use mathlib.Core.List.{[], _∷_}
 use Prim.Native.Nat.{ℕ}
 use borrow.Author.Needs.{needs}
-use Rattle.stripe.proofs.Quick.{quick-refused, quick-fits, quick-differs}
-use Rattle.stripe.proofs.scrubbing.quick_scrub.Statement.{statement}
-use Rattle.stripe.proofs.scrubbing.quick_scrub.Tie as tie
+use Rattle.verdict.proofs.Quick.{quick-refused, quick-fits, quick-differs}
+use Rattle.verdict.proofs.quick_scrub.Statement.{statement}
+use Rattle.verdict.proofs.quick_scrub.Tie as tie
 
 quick-refusal-requires : tie.Need-quick-refusal-requires
 quick-refusal-requires c κs = search needs

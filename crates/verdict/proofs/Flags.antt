@@ -8,9 +8,7 @@ use native.Mathlib.Nat.{le-of-suc-le-suc, not-suc-le-zero, zero-lt-suc}
 use native.Mathlib.Omega.{arith}
 use lib.ListN.{length, getD, drop, length-drop, drop-of-length-le}
 use lib.Seq.{drop-cons}
-use Rattle.stripe.specs.Tables.{table}
-use Rattle.stripe.specs.Verdicts.{count, lowest}
-use Rattle.stripe.proofs.Tables.{table-suc}
+use Rattle.verdict.specs.Verdicts.{count, lowest}
 
 -- no flag holds
 abbrev pub NoFlag : List Bool → Type 0
@@ -49,9 +47,6 @@ pub count-append : (flags more : List Bool) → count (flags ++ more) ≡ count 
 count-append [] more = omega arith
 count-append (true ∷ flags) more = omega (arith, count-append flags more)
 count-append (false ∷ flags) more = count-append flags more
-
-pub count-table : (n : ℕ) (f : ℕ → Bool) → count (table (suc n) f) ≡ count (table n f) + cond (f n) 1 0
-count-table n f = ap count (table-suc n f) ∙ count-append (table n f) (f n ∷ []) ∙ ap (λ (k : ℕ). count (table n f) + k) (count-cons (f n) [] ∙ omega arith)
 
 -- ---- the lowest
 

@@ -1,0 +1,5 @@
+pub mod Flags
+pub mod Greatest
+pub mod Verdicts
+pub mod Quick
+pub mod Injective

@@ -1,0 +1,131 @@
+// The verdict on a stripe's bad members and combined data, and the quick scrub of its stored guards: all of a scrub that looks at no block.
+ghost use mathlib.Core.Path.{_≡_};
+ghost use Prim.Native.Nat.{max};
+ghost use lib.Dec.{eqb};
+ghost use Rattle.verdict.specs.Verdicts.{
+  count,
+  lowest,
+  nonzero,
+  judgedBy,
+  verdictNumbers,
+  combinedGuards,
+  quickRefusal,
+  quickNumbers,
+  comparedNumbers,
+};
+
+// What a scrub finds in a stripe: every member good and parity right; the lowest of `count` bad members; or, with every
+// member good, the lowest place where the members' data do not combine to zero (01 calls such a stripe torn).
+pub enum Verdict {
+    Clean,
+    Bad { member: usize, count: usize },
+    Torn { place: usize },
+}
+
+// A scrub refused, or its verdict.
+pub enum Scrubbed {
+    Refused(u8),
+    Found(Verdict),
+}
+
+// What the quick scrub says of the stored guards: they combine to zero, or to something else.
+pub enum Compared {
+    Refused(u8),
+    Fits,
+    Differs { combination: u16 },
+}
+
+// The greater of two bytes.
+fn most(a: u8, b: u8) -> u8
+    ensures { λ r. ⌜ r ≡ max a b ⌝ }
+{
+    if a < b { b } else { a }
+}
+
+// Whether no byte differs from zero: the greatest does not.
+fn all_zero(bytes: &[u8]) -> bool
+    ensures { λ r. ⌜ r ≡ eqb (count (nonzero (now (bytes .entry)))) 0 ⌝ }
+{
+    let mut greatest: u8 = 0;
+    let mut i: usize = 0;
+    while i < bytes.len() {
+        greatest = most(greatest, bytes[i]);
+        i += 1;
+    }
+    greatest == 0
+}
+
+// The first place that is not zero, or the length where there is none.
+fn first_nonzero(bytes: &[u8]) -> usize
+    ensures { λ r. ⌜ r ≡ lowest (nonzero (now (bytes .entry))) ⌝ }
+{
+    if all_zero(bytes) {
+        return bytes.len();
+    }
+    let mut place: usize = 0;
+    while place < bytes.len() {
+        if bytes[place] != 0 {
+            return place;
+        }
+        place += 1;
+    }
+    place
+}
+
+// The verdict on a stripe with so many bad members, of which `member` is the lowest, and such combined data.
+pub fn judge(member: usize, bads: usize, combined: &[u8]) -> Verdict
+    ensures { λ r. ⌜ verdictNumbers r ≡ judgedBy member bads (nonzero (now (combined .entry))) ⌝ }
+{
+    if 0 < bads {
+        return Verdict::Bad {
+            member,
+            count: bads,
+        };
+    }
+    let place = first_nonzero(combined);
+    if place < combined.len() {
+        return Verdict::Torn { place };
+    }
+    Verdict::Clean
+}
+
+// The exclusive-or of guards.
+pub fn combined_guards(guards: &[u16]) -> u16
+    ensures { λ r. ⌜ r ≡ combinedGuards (now (guards .entry)) ⌝ }
+{
+    let mut combined: u16 = 0;
+    let mut next: usize = 0;
+    while next < guards.len() {
+        combined = combined ^ guards[next];
+        next += 1;
+    }
+    combined
+}
+
+// The refusal number of so many guards.
+fn quick_refusal(guards: usize) -> u8
+    ensures { λ r. ⌜ r ≡ quickRefusal guards ⌝ }
+{
+    if guards < 3 {
+        return 1;
+    }
+    if 16 < guards {
+        return 1;
+    }
+    0
+}
+
+// The stored guards of a stripe compared: they fit where they combine to zero.
+pub fn quick_scrub(guards: &[u16]) -> Compared
+    ensures { λ r. ⌜ comparedNumbers r ≡ quickNumbers (now (guards .entry)) ⌝ }
+{
+    let refusal = quick_refusal(guards.len());
+    if refusal != 0 {
+        return Compared::Refused(refusal);
+    }
+    let combination = combined_guards(guards);
+    if combination == 0 {
+        return Compared::Fits;
+    }
+    Compared::Differs { combination }
+}
