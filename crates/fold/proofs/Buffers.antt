@@ -11,7 +11,7 @@ use lib.Seq.{length-take-le, getD-take, getD-drop}
 use lib.Bits.{bitXor, xor-zero-r}
 use Rattle.xor.proofs.Bits.{xor-assoc, xor-swap}
 use Rattle.crc.specs.Guard.{guard}
-use Rattle.fold.specs.Tables.{table}
+use Rattle.table.specs.Tables.{table}
 use Rattle.fold.specs.Folds.{mix, Chunk, Lane}
 use Rattle.fold.proofs.Taken.{zeros, zeros-at, bit-guard, Below, moved, pulled, folded, either}
 

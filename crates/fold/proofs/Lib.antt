@@ -1,4 +1,3 @@
-pub mod Entries
 pub mod Strides
 pub mod Taken
 pub mod Buffers

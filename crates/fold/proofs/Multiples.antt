@@ -4,7 +4,7 @@ use mathlib.Core.Path.{_≡_, refl}
 use mathlib.Core.List.{[], _∷_}
 use Rattle.crc.specs.Crc.{feed, bits, bitsOf, bitStep}
 use Rattle.crc.specs.Guard.{run, guard}
-use Rattle.fold.specs.Tables.{table}
+use Rattle.table.specs.Tables.{table}
 use Rattle.fold.specs.Folds.{addAt, addEach}
 use Rattle.fold.proofs.Taken.{zeros, bit-guard}
 

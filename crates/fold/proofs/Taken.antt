@@ -15,9 +15,9 @@ use Rattle.xor.specs.Xors.{xors}
 use Rattle.xor.proofs.Bits.{bit-elim, xor-assoc, xor-four, xor-undo, xor-twice}
 use Rattle.xor.proofs.Lists.{length-xors, getD-xors, zeros-xors}
 use Rattle.crc.specs.Guard.{run, guard}
-use Rattle.fold.specs.Tables.{table}
+use Rattle.table.specs.Tables.{table}
 use Rattle.fold.specs.Folds.{addAt, addEach}
-use Rattle.fold.proofs.Entries.{entry}
+use Rattle.table.proofs.Entries.{entry}
 use Rattle.crc.proofs.Joined.{run-joined, run-nil}
 use Rattle.crc.proofs.Linear.{guard-linear}
 use Rattle.crc.proofs.Shifted.{guard-zero}

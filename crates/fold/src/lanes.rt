@@ -4,13 +4,11 @@ ghost use Prim.Native.Nat.{_+_, _*_, _≤_, min};
 ghost use lib.ListN.{length, take};
 ghost use Rattle.crc.specs.Crc.{Bytes};
 ghost use Rattle.crc.specs.Guard.{guard};
-ghost use Rattle.fold.specs.Tables.{lows, highs};
+ghost use Rattle.table.specs.Tables.{lows, highs};
 ghost use Rattle.crc.specs.Blocks.{guardsOf};
 ghost use Rattle.fold.specs.Eights.{Lanes, Tails, Ran};
 use crate::by_folds;
 use crate::chunk;
-use crate::tables::high_table;
-use crate::tables::low_table;
 use crate::tail;
 use crate::two;
 use xor::least;
@@ -186,7 +184,7 @@ fn sixteen(high: &[u16; 256], low: &[u16; 256], bytes: &[u8], stride: usize) -> 
 pub fn guards(bytes: &[u8], stride: usize) -> [u16; 16]
     ensures { λ r. ⌜ r ≡ guardsOf 16 stride (now (bytes .entry)) ⌝ }
 {
-    let high = high_table();
-    let low = low_table();
+    let high = table::high_table();
+    let low = table::low_table();
     sixteen(&high, &low, bytes, stride)
 }

@@ -1,6 +1,5 @@
 // Guards fast: a run by two tables, two bytes at a time; a block of 512 bytes by three folds and then the tables.
 mod lanes;
-mod tables;
 
 pub use lanes::guards;
 ghost use mathlib.Core.Path.{_≡_};
@@ -9,25 +8,8 @@ ghost use Prim.Native.Nat.{ℕ, _+_, _≤_, _<_};
 ghost use lib.ListN.{length, getD};
 ghost use Rattle.crc.specs.Crc.{Bytes};
 ghost use Rattle.crc.specs.Guard.{run, guard};
-ghost use Rattle.fold.specs.Tables.{lows, highs};
+ghost use Rattle.table.specs.Tables.{lows, highs};
 ghost use Rattle.fold.specs.Folds.{mix, headOf, Blank, Chunk, Lane, Tail};
-use tables::high_table;
-use tables::low_table;
-
-// What a table holds for a byte.
-fn look(table: &[u16; 256], byte: u8) -> u16
-    ensures { λ r. ⌜ r ≡ getD (now (table .entry)) byte 0 ⌝ }
-{
-    table[byte as usize]
-}
-
-// The register after one byte, by one table.
-fn one(low: &[u16; 256], register: u16, byte: u8) -> u16
-    requires { ⌜ now low ≡ lows ⌝ }
-    ensures { λ r. ⌜ r ≡ run register (byte ∷ []) ⌝ }
-{
-    register % 256 * 256 ^ look(low, (register / 256) as u8 ^ byte)
-}
 
 // The register after two bytes, by two tables.
 fn two(high: &[u16; 256], low: &[u16; 256], register: u16, first: u8, second: u8) -> u16
@@ -35,26 +17,16 @@ fn two(high: &[u16; 256], low: &[u16; 256], register: u16, first: u8, second: u8
     requires { ⌜ now low ≡ lows ⌝ }
     ensures { λ r. ⌜ r ≡ run register (first ∷ second ∷ []) ⌝ }
 {
-    look(high, (register / 256) as u8 ^ first) ^ look(low, (register % 256) as u8 ^ second)
+    table::two(high, low, register, first, second)
 }
 
-// The register after a run of bytes, two at a time.
+// The register after a run of bytes, by two tables.
 fn by_tables(high: &[u16; 256], low: &[u16; 256], register: u16, bytes: &[u8]) -> u16
     requires { ⌜ now high ≡ highs ⌝ }
     requires { ⌜ now low ≡ lows ⌝ }
     ensures { λ r. ⌜ r ≡ run register (now (bytes .entry)) ⌝ }
 {
-    let mut after = register;
-    let mut i: usize = 0;
-    while 1 < bytes.len() - i {
-        after = two(high, low, after, bytes[i], bytes[i + 1]);
-        i += 2;
-    }
-    if i < bytes.len() {
-        one(low, after, bytes[i])
-    } else {
-        after
-    }
+    table::through(high, low, register, bytes)
 }
 
 // A byte with three more added: those of the buffer w at the distances d, e and f from q.
@@ -246,8 +218,8 @@ fn by_folds(high: &[u16; 256], low: &[u16; 256], register: u16, bytes: &[u8]) ->
 pub fn run(register: u16, bytes: &[u8]) -> u16
     ensures { λ r. ⌜ r ≡ run register (now (bytes .entry)) ⌝ }
 {
-    let high = high_table();
-    let low = low_table();
+    let high = table::high_table();
+    let low = table::low_table();
     by_folds(&high, &low, register, bytes)
 }
 

@@ -1,86 +1,24 @@
--- `fold::by_tables` meets its contract. The invariant: the bytes still to come, from the register now, give what all give from the first.
+-- `fold::by_tables` meets its contract: the tables are the guard's own.
 -- Assumes nothing.
-use mathlib.Core.Path.{_≡_, sym, ap, _∙_}
-use Prim.Native.Nat.{ℕ, _+_, _-_, _≤_}
+use mathlib.Core.Path.{ap₂, _∙_}
+use mathlib.Core.List.{List}
+use Prim.Native.Nat.{ℕ}
 use native.Mathlib.Omega.{arith}
-use lib.ListN.{length, drop, drop-of-length-le}
-use Rattle.crc.specs.Guard.{run}
-use Rattle.crc.proofs.Joined.{run-turn, run-last, run-nil}
+use Rattle.table.specs.Tables.{lookRun}
+use Rattle.table.proofs.Looked.{run-by-tables}
 use borrow.Author.Needs.{needs}
 use Rattle.fold.proofs.by_tables.Statement.{statement}
 use Rattle.fold.proofs.by_tables.Tie as tie
 
-abbrev Inv-loop : tie.InvT-loop
-Inv-loop high low register bytes after₀ i₀ after i = (i ≤ length bytes) × (run after (drop i bytes) ≡ run register bytes)
+through-requires : tie.Need-through-requires
+through-requires c κs = search needs
 
-abbrev μ-loop : tie.MeasureT-loop
-μ-loop high low register bytes after₀ i₀ after i = length bytes - i
-
-loop-holds : tie.Need-loop-holds Inv-loop μ-loop
-loop-holds c = search needs
-
-sub-loop : tie.Need-sub-loop Inv-loop μ-loop
-sub-loop c = search needs
-
-shared-slice-read-two : tie.Need-shared-slice-read-two Inv-loop μ-loop
-shared-slice-read-two c = search needs
-
-add-two : tie.Need-add-two Inv-loop μ-loop
-add-two c = search needs
-
-shared-slice-read-two-2 : tie.Need-shared-slice-read-two-2 Inv-loop μ-loop
-shared-slice-read-two-2 c = search needs
-
-two-requires : tie.Need-two-requires Inv-loop μ-loop
-two-requires c κs = search needs
-
-add-i : tie.Need-add-i Inv-loop μ-loop
-add-i c = search needs
-
-loop-less : tie.Need-loop-less Inv-loop μ-loop
-loop-less c = search needs
-
-loop-again : tie.Need-loop-again Inv-loop μ-loop
-loop-again c =
-    let at = c .before .before .before .before .loop in
-    let bytes = c .before .before .before .before .before .before .args .bytes .now in
-    (omega arith, ap (λ (r : ℕ). run r (drop (at .i + 2) bytes)) (c .two .ensures) ∙ run-turn (at .after) bytes (at .i) (omega arith) ∙ at .inv .1)
-
-shared-slice-read-one : tie.Need-shared-slice-read-one Inv-loop μ-loop
-shared-slice-read-one c = search needs
-
-one-requires : tie.Need-one-requires Inv-loop μ-loop
-one-requires c κs = search needs
-
-returns : tie.Need-returns Inv-loop μ-loop
+returns : tie.Need-returns
 returns c =
-    let at = c .before .before .before .before .loop in
-    let bytes = c .before .before .before .before .before .before .args .bytes .now in
-    c .one .ensures ∙ run-last (at .after) bytes (at .i) (omega arith) ∙ at .inv .1
-
-returns-2 : tie.Need-returns-2 Inv-loop μ-loop
-returns-2 c =
-    let at = c .before .before .loop in
-    let bytes = c .before .before .before .before .args .bytes .now in
-    let none : length bytes ≤ at .i = omega arith in
-    sym (run-nil (at .after)) ∙ ap (run (at .after)) (sym (drop-of-length-le bytes none)) ∙ at .inv .1
+    let s = c .before .before in
+    let a = s .args in
+    c .through .ensures ∙ ap₂ (λ (h l : List ℕ). lookRun h l (a .register) (a .bytes .now)) (s .pre .0) (s .pre .1)
+    ∙ run-by-tables (a .register) (a .bytes .now) (search needs) (λ k. omega (arith, c .before .shared-slice-known .given k))
 
 pub by-tables-spec : {M : Type 1} → statement M
-by-tables-spec =
-    tie.close
-    (tie.spec
-    Inv-loop
-    μ-loop
-    loop-holds
-    sub-loop
-    shared-slice-read-two
-    add-two
-    shared-slice-read-two-2
-    two-requires
-    add-i
-    loop-less
-    loop-again
-    shared-slice-read-one
-    one-requires
-    returns
-    returns-2)
+by-tables-spec = tie.close (tie.spec through-requires returns)

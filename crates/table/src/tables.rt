@@ -1,6 +1,6 @@
 // The two tables of the guard, by which two bytes are taken at a time. Each is compared with its rule once, where it is handed out.
 ghost use mathlib.Core.Path.{_≡_};
-ghost use Rattle.fold.specs.Tables.{lows, highs};
+ghost use Rattle.table.specs.Tables.{lows, highs};
 
 // At each byte: the guard of the byte and a zero byte after it.
 const HIGH: [u16; 256] = [

@@ -7,7 +7,7 @@ use native.Mathlib.Nat.{zero-add, le-of-suc-le-suc, not-suc-le-zero}
 use native.Mathlib.Omega.{arith}
 use lib.ListN.{getD}
 use Rattle.crc.specs.Guard.{guard}
-use Rattle.fold.specs.Tables.{table, lows, highs}
+use Rattle.table.specs.Tables.{table, lows, highs}
 
 from : (f : ℕ → ℕ) (i n k : ℕ) → k < n → getD (table f i n) k 0 ≡ f (i + k)
 from f i zero k h = absurd (not-suc-le-zero h)
