@@ -1,25 +1,28 @@
--- Bytes of the header: the report goes on, and with the last of them it has its first line or its refusal. Assumes nothing.
+-- How a report begins: bytes of the header let it go on, and with the last of them it has its first line or its refusal.
+-- Assumes nothing.
 use mathlib.Core.Path.{_≡_, refl, ap, _∙_}
-use mathlib.Core.Bool.{Bool, true, false, cond, _&&_}
-use mathlib.Core.List.{List, [], _++_, append-assoc, append-nil}
+use mathlib.Core.Bool.{Bool, true, false, cond}
+use mathlib.Core.List.{List, [], _∷_, _++_, append-assoc, append-nil}
 use Prim.Native.Nat.{ℕ, _+_, _≤_, _<_, zero-le}
 use native.Mathlib.Nat.{sub-zero}
 use native.Mathlib.Omega.{arith}
-use lib.Dec.{leb, ltb, eqb}
+use lib.Dec.{ltb, eqb}
 use borrow.Author.Tests.{ltb-true, ltb-false, eqb-true}
-use lib.ListN.{length, getD, take, length-append}
+use lib.ListN.{length, take, length-append}
 use lib.Seq.{sets, length-sets, take-at, drop-at}
-use Rattle.layout.specs.Arrays.{arrayRefusal, stripeRefusal}
+use Rattle.layout.specs.Arrays.{stripeRefusal}
 use Rattle.layout.specs.declared.Array.{Array}
-use Rattle.layout.proofs.Answers.{refuse-none}
-use Rattle.layout.proofs.Ranges.{Sound, array-sound, sound-stripe}
-use Rattle.tag.specs.Numbers.{numberOf}
+use Rattle.layout.proofs.Ranges.{sound-stripe}
 use Rattle.tag.specs.Blocks.{dataLength}
 use Rattle.scan.specs.Scans.{startState, startWork}
+use Rattle.lines.specs.Text.{scrubWord}
+use Rattle.lines.specs.Lines.{firstLine, refusedLine}
+use Rattle.lines.specs.Headers.{headerLength, arrayIn, headerRefusal}
+use Rattle.lines.proofs.Lines.{first-line-fits, refused-line-fits}
+use Rattle.lines.proofs.Headers.{header-sound}
 use Rattle.report.specs.declared.Report.{Report}
-use Rattle.report.specs.Reports.{headerLength, arrayIn, headerRefusal, firstLine, refusedLine, none, stripeLines, reportOf}
+use Rattle.report.specs.Reports.{none, stripeLines, reportOf}
 use Rattle.report.specs.Feeding.{holding, entering, ended, headerWhole, headerTook, freshReport}
-use Rattle.report.proofs.Lines.{first-line-fits, refused-line-fits}
 use Rattle.report.proofs.Scanning.{scan-starts}
 use Rattle.report.proofs.Stages.{inHeader, inStripe, over, StandsInHeader, StandsInStripe, Leads}
 use Rattle.report.proofs.Storing.{stored, stored-whole}
@@ -29,12 +32,11 @@ pub fresh-stands : (w : List ℕ) → length w ≡ dataLength → StandsInHeader
 unfolding freshReport
 fresh-stands w e = record { stage = refl; have = refl; short = omega arith; long = refl; bytes = refl; work = e }
 
--- a header that is not refused has an array whose numbers are in range
-pub header-sound : (header : List ℕ) → headerRefusal header ≡ 0 → Sound (arrayIn header)
-unfolding headerRefusal
-header-sound header e =
-    let told = leb headerLength (length header) && eqb (numberOf (take 2 header)) 7 && eqb (getD header 2 0) 1 in
-    array-sound (arrayIn header) (refuse-none told 9 (arrayRefusal (arrayIn header)) e .1)
+-- a report whose header is not refused begins with the eight bytes "SCRUB v1"
+pub report-begins : (image : List ℕ) → headerRefusal (take headerLength image) ≡ 0
+    → take 8 (reportOf image) ≡ 0x53 ∷ 0x43 ∷ 0x52 ∷ 0x55 ∷ 0x42 ∷ 0x20 ∷ 0x76 ∷ 0x31 ∷ []
+unfolding reportOf firstLine scrubWord
+report-begins image e = rw e
 
 -- ---- the header is whole
 

@@ -6,20 +6,9 @@ use Prim.Native.Nat.{ℕ, _≤_, _<_}
 use native.Mathlib.Omega.{arith}
 use borrow.Author.Tests.{lt-ltb, le-ltb, eq-eqb, ne-eqb}
 use lib.ListN.{length, take}
+use Rattle.lines.specs.Lines.{lineRoom}
 use Rattle.report.specs.declared.Report.{Report}
-use Rattle.report.specs.Feeding.{
-  lineRoom,
-  headerLacks,
-  headerTook,
-  stripeFit,
-  blockLacks,
-  stripeTook,
-  idle,
-  skipped,
-  tooLong,
-  stageStep,
-  feedStep,
-}
+use Rattle.report.specs.Feeding.{headerLacks, headerTook, stripeFit, blockLacks, stripeTook, idle, skipped, tooLong, stageStep, feedStep}
 
 module _ (r : Report) (input w : List ℕ) where
   module _ (room : ℕ) where

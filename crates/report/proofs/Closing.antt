@@ -9,10 +9,12 @@ use lib.Seq.{take-all}
 use Rattle.layout.specs.declared.Array.{Array}
 use Rattle.layout.proofs.Ranges.{stripe-sound}
 use Rattle.stripe.specs.Stripes.{stripeLength}
+use Rattle.lines.specs.Lines.{refusedLine, totalLine, Tally, lineRoom}
+use Rattle.lines.specs.Headers.{headerLength, headerRefusal}
+use Rattle.lines.proofs.Lines.{refused-line-fits, total-line-fits}
 use Rattle.report.specs.declared.Report.{Report}
-use Rattle.report.specs.Reports.{headerLength, headerRefusal, refusedLine, totalLine, Tally, ending, stripeLines, reportOf}
-use Rattle.report.specs.Feeding.{lineRoom, tallyOf, closeLine}
-use Rattle.report.proofs.Lines.{refused-line-fits, total-line-fits}
+use Rattle.report.specs.Reports.{ending, stripeLines, reportOf}
+use Rattle.report.specs.Feeding.{tallyOf, closeLine}
 use Rattle.report.proofs.Stages.{Stage, inHeader, inStripe, behind, over, toSay, Stands}
 use Rattle.report.proofs.Striping.{one-left}
 

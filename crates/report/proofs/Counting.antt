@@ -5,7 +5,8 @@ use Prim.Native.Nat.{ℕ, _+_}
 use native.Mathlib.Omega.{arith}
 use lib.Dec.{eqb}
 use lib.ListN.{getD}
-use Rattle.report.specs.Reports.{Tally, counted}
+use Rattle.lines.specs.Lines.{Tally}
+use Rattle.report.specs.Reports.{counted}
 use Rattle.report.proofs.Stages.{Counted}
 
 pub one-more-counted : (stripe : ℕ) (t : Tally) (verdict : List ℕ) → Counted stripe t → Counted (stripe + 1) (counted t verdict)

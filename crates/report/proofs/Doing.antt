@@ -4,7 +4,7 @@ use mathlib.Core.Bool.{true, false, cond}
 use mathlib.Core.List.{List, [], _∷_}
 use mathlib.Core.Logic.{_≢_}
 use Prim.Native.Nat.{ℕ, zero, suc, _+_, _-_, _≤_, _<_, min}
-use native.Mathlib.Nat.{zero-add, sub-zero, zero-min, min-zero, suc-min-suc}
+use native.Mathlib.Nat.{sub-zero, zero-min, min-zero, suc-min-suc}
 use native.Mathlib.Omega.{arith}
 use borrow.Author.Tests.{lt-ltb, le-ltb, eq-eqb, ne-eqb}
 use lib.ListN.{length, take, length-take}
@@ -12,29 +12,15 @@ use lib.Seq.{sets, take-all}
 use Rattle.layout.specs.declared.Array.{Array}
 use Rattle.scan.specs.declared.Scan.{Scan}
 use Rattle.scan.specs.Scans.{startState, startWork}
+use Rattle.lines.specs.Text.{Written}
+use Rattle.lines.specs.Lines.{firstLine, refusedLine, totalLine}
+use Rattle.lines.specs.Headers.{arrayIn, headerRefusal}
+use Rattle.lines.proofs.Texts.{line-long}
 use Rattle.report.specs.declared.Report.{Report}
 use Rattle.report.specs.declared.Fed.{Fed}
-use Rattle.report.specs.Text.{Written}
-use Rattle.report.specs.Reports.{arrayIn, headerRefusal, firstLine, refusedLine, none, totalLine}
+use Rattle.report.specs.Reports.{none}
 use Rattle.report.proofs.Choosing.{without-room, without-input, in-the-header, behind-the-last}
-use Rattle.report.specs.Feeding.{
-  Step,
-  Does,
-  holding,
-  entering,
-  ended,
-  headerWhole,
-  headerTook,
-  headerLacks,
-  stripeFit,
-  blockLacks,
-  stripeTook,
-  skipped,
-  stageStep,
-  feedStep,
-  tallyOf,
-  closeLine,
-}
+use Rattle.report.specs.Feeding.{Step, Does, holding, entering, ended, headerWhole, headerTook, headerLacks, stripeFit, blockLacks, stripeTook, skipped, stageStep, feedStep, tallyOf, closeLine}
 
 -- a call that does a step does any that equals it
 pub does-same : {s t : Step} {a : Fed} {w o p : List ℕ} → s ≡ t → Does t a w o p → Does s a w o p
@@ -49,7 +35,7 @@ silent used s w o = record { uses = refl; leaves = refl; writes = refl; combines
 pub with-line : (used : ℕ) (s t : Report) (w v text o p : List ℕ) (n : ℕ) → s ≡ t → w ≡ v → Written o 0 text p n
     → Does (record { used = used; state = t; work = v; line = text }) (record { state = s; used = used; written = n }) w o p
 with-line used s t w v text o p n e f written =
-    record { uses = refl; leaves = e; writes = written .behind ∙ zero-add (length text); combines = f; shows = written .stands }
+    record { uses = refl; leaves = e; writes = line-long written; combines = f; shows = written .stands }
 
 -- ---- the header
 
@@ -177,7 +163,7 @@ module _ (r : Report) (room : ℕ) where
 
 -- what a line's writing says of close, and what no line does
 pub line-closes : (text line o p : List ℕ) (n : ℕ) → text ≡ line → Written o 0 text p n → (n ≡ length line) × (p ≡ sets o 0 line)
-line-closes text line o p n e written = rw (sym e) (written .behind ∙ zero-add (length text), written .stands)
+line-closes text line o p n e written = rw (sym e) (line-long written, written .stands)
 
 pub silence-closes : (line o : List ℕ) → line ≡ [] → (0 ≡ length line) × (o ≡ sets o 0 line)
 silence-closes line o e = rw e (refl, refl)

@@ -5,9 +5,11 @@ use mathlib.Core.List.{List, [], _∷_}
 use Prim.Native.Nat.{ℕ}
 use Rattle.layout.specs.Arrays.{arrayRefusal}
 use Rattle.tag.specs.Numbers.{numberOf}
-use Rattle.report.specs.Text.{decimal, refusedWord}
-use Rattle.report.specs.Reports.{arrayIn, headerRefusal, refusedLine, reportOf}
-use Rattle.report.specs.Feeding.{lineRoom, headerWhole, headerTook, stageStep, feedStep, closeLine, freshReport, fedText}
+use Rattle.lines.specs.Text.{decimal, refusedWord}
+use Rattle.lines.specs.Lines.{refusedLine, lineRoom}
+use Rattle.lines.specs.Headers.{arrayIn, headerRefusal}
+use Rattle.report.specs.Reports.{reportOf}
+use Rattle.report.specs.Feeding.{headerWhole, headerTook, stageStep, feedStep, closeLine, freshReport, fedText}
 
 -- "REFUSED ", a digit, and the end of the line
 refusedWith : ℕ → List ℕ

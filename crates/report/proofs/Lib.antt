@@ -1,7 +1,3 @@
-pub mod Digits
-pub mod Texts
-pub mod Lines
-pub mod Headers
 pub mod Filling
 pub mod Scanning
 pub mod Stages

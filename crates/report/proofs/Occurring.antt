@@ -9,9 +9,10 @@ use native.Mathlib.Omega.{arith}
 use lib.ListN.{length, take, drop, length-drop, take-append-drop}
 use lib.Seq.{sets}
 use Rattle.stripe.specs.Tables.{joined}
+use Rattle.lines.specs.Lines.{lineRoom}
 use Rattle.report.specs.declared.Report.{Report}
 use Rattle.report.specs.declared.Fed.{Fed}
-use Rattle.report.specs.Feeding.{lineRoom, feedStep, closeLine, feedAll, fedText}
+use Rattle.report.specs.Feeding.{feedStep, closeLine, feedAll, fedText}
 use Rattle.report.specs.Runs.{Run, closed, fed}
 use Rattle.report.proofs.Storing.{written-there}
 use Rattle.report.proofs.Stages.{Stage, Stands}

@@ -8,9 +8,11 @@ use Rattle.layout.specs.Arrays.{stripeRefusal}
 use Rattle.layout.specs.declared.Array.{Array}
 use Rattle.tag.specs.Blocks.{dataLength}
 use Rattle.stripe.specs.Stripes.{stripeLength}
+use Rattle.lines.specs.Lines.{Tally, lineRoom}
+use Rattle.lines.specs.Headers.{headerLength}
 use Rattle.report.specs.declared.Report.{Report}
-use Rattle.report.specs.Reports.{headerLength, Tally, ending, stripeLines, reportOf}
-use Rattle.report.specs.Feeding.{Step, lineRoom, tallyOf}
+use Rattle.report.specs.Reports.{ending, stripeLines, reportOf}
+use Rattle.report.specs.Feeding.{Step, tallyOf}
 use Rattle.report.proofs.Scanning.{Scanned}
 
 -- these bytes of the header have come; these bytes of a stripe, and this was counted before it; all stripes; the last line is written

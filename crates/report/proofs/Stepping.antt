@@ -8,10 +8,11 @@ use native.Mathlib.Omega.{arith}
 use lib.ListN.{length, take, length-take}
 use lib.Seq.{take-length}
 use Rattle.layout.specs.declared.Array.{Array}
+use Rattle.lines.specs.Lines.{refusedLine, Tally, lineRoom}
+use Rattle.lines.proofs.Lines.{refused-line-fits}
 use Rattle.report.specs.declared.Report.{Report}
-use Rattle.report.specs.Reports.{refusedLine, Tally, ending}
-use Rattle.report.specs.Feeding.{Step, lineRoom, idle, headerLacks, blockLacks, headerTook, stripeTook, stageStep, feedStep}
-use Rattle.report.proofs.Lines.{refused-line-fits}
+use Rattle.report.specs.Reports.{ending}
+use Rattle.report.specs.Feeding.{Step, idle, headerLacks, blockLacks, headerTook, stripeTook, stageStep, feedStep}
 use Rattle.report.proofs.Stages.{Stage, inHeader, inStripe, behind, over, toSay, Stands, Leads}
 use Rattle.report.proofs.Beginning.{header-leads}
 use Rattle.report.proofs.Choosing.{without-room, without-input, with-both, in-the-header, in-a-stripe, behind-the-last, when-over}

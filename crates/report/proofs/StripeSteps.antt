@@ -2,7 +2,6 @@
 use mathlib.Core.Path.{_≡_, refl, sym, ap, ap₂, _∙_, subst}
 use mathlib.Core.List.{List, [], _∷_}
 use Prim.Native.Nat.{ℕ, _+_, _*_, _/_, _≤_, _<_}
-use native.Mathlib.Nat.{zero-add}
 use borrow.Author.Tests.{lt-ltb, le-ltb}
 use lib.ListN.{length}
 use Rattle.verdict.specs.declared.Verdict.{Verdict}
@@ -11,15 +10,13 @@ use Rattle.verdict.specs.declared.Scrubbed.the-variants.{Refused, Found}
 use Rattle.verdict.specs.Verdicts.{verdictNumbers, scrubbedNumbers}
 use Rattle.scan.specs.declared.Scan.{Scan}
 use Rattle.scan.specs.Scans.{startState, startWork, pieceState, pieceWork, finishNumbers}
+use Rattle.lines.specs.Text.{Written}
+use Rattle.lines.specs.Lines.{stripeLine, refusedLine, Tally}
+use Rattle.lines.proofs.Texts.{line-long}
 use Rattle.report.specs.declared.Report.{Report}
 use Rattle.report.specs.declared.Fed.{Fed}
-use Rattle.report.specs.Text.{Written}
-use Rattle.report.specs.Reports.{stripeLine, refusedLine, Tally, counted}
+use Rattle.report.specs.Reports.{counted}
 use Rattle.report.specs.Feeding.{Step, Does, tallyOf, holding, entering, ended, stripeJudged, stripeWhole, stripeTook}
-
--- a line that stands at the start ends where it is long
-pub line-long : {before text after : List ℕ} {place : ℕ} → Written before 0 text after place → place ≡ length text
-line-long {text = text} w = w .behind ∙ zero-add (length text)
 
 module _ (used : ℕ) (r : Report) (w : List ℕ) where
   -- ---- the stripe has its verdict

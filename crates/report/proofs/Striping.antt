@@ -16,10 +16,11 @@ use Rattle.tag.specs.Blocks.{blockLength}
 use Rattle.stripe.specs.Stripes.{stripeLength}
 use Rattle.scan.specs.declared.Scan.{Scan}
 use Rattle.scan.specs.Scans.{startState, startWork, pieceState, pieceWork, finishNumbers}
+use Rattle.lines.specs.Lines.{stripeLine, Tally}
+use Rattle.lines.proofs.Lines.{stripe-line-fits}
 use Rattle.report.specs.declared.Report.{Report}
-use Rattle.report.specs.Reports.{stripeLine, Tally, counted, verdictOf, stripeLines}
+use Rattle.report.specs.Reports.{counted, verdictOf, stripeLines}
 use Rattle.report.specs.Feeding.{Step, tallyOf, holding, entering, stripeFit, stripeJudged, stripeWhole, stripeTook}
-use Rattle.report.proofs.Lines.{stripe-line-fits}
 use Rattle.report.proofs.Scanning.{Scanned, scan-starts, scan-goes-on, scan-judges, work-stays-long}
 use Rattle.report.proofs.Stages.{inStripe, behind, toSay, Counted, StandsInStripe, Leads}
 use Rattle.report.proofs.Counting.{one-more-counted}

@@ -8,9 +8,10 @@ use Prim.Native.Nat.{ℕ, _≤_}
 use lib.ListN.{length, take, replicate, length-replicate}
 use Rattle.tag.specs.Blocks.{dataLength}
 use Rattle.stripe.specs.Tables.{joined}
+use Rattle.lines.specs.Lines.{lineRoom}
 use Rattle.report.specs.declared.Report.{Report}
 use Rattle.report.specs.Reports.{reportOf}
-use Rattle.report.specs.Feeding.{lineRoom, freshReport, feedLine, closeLine, fedText}
+use Rattle.report.specs.Feeding.{freshReport, feedLine, closeLine, fedText}
 use Rattle.report.specs.Runs.{Run, closed, fed}
 use Rattle.report.proofs.Storing.{written-there}
 use Rattle.report.proofs.Stages.{Stage, inHeader, toSay, Stands}

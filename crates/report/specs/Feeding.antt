@@ -12,20 +12,11 @@ use Rattle.tag.specs.Blocks.{blockLength}
 use Rattle.stripe.specs.Stripes.{stripeLength}
 use Rattle.scan.specs.declared.Scan.{Scan}
 use Rattle.scan.specs.Scans.{noArray, emptyScan, startState, startWork, pieceState, pieceWork, finishNumbers}
+use Rattle.lines.specs.Lines.{firstLine, refusedLine, stripeLine, Tally, totalLine, lineRoom}
+use Rattle.lines.specs.Headers.{headerLength, arrayIn, headerRefusal}
 use Rattle.report.specs.declared.Report.{Report}
 use Rattle.report.specs.declared.Fed.{Fed}
-use Rattle.report.specs.Reports.{
-  headerLength,
-  arrayIn,
-  headerRefusal,
-  firstLine,
-  refusedLine,
-  stripeLine,
-  Tally,
-  none,
-  counted,
-  totalLine,
-}
+use Rattle.report.specs.Reports.{none, counted}
 
 -- what a call leaves: how many bytes of the input it used, the state, the work buffer, and the line that it wrote, [] where it wrote none
 pub record Step : Type 0 where
@@ -42,10 +33,6 @@ pub record Does (step : Step) (answer : Fed) (work out outAfter : List ℕ) : Ty
   pub writes : answer .written ≡ length (step .line)
   pub combines : work ≡ step .work
   pub shows : outAfter ≡ sets out 0 (step .line)
-
--- no line is longer; with less room for output a call does nothing
-abbrev pub lineRoom : ℕ
-lineRoom = 128
 
 abbrev pub tallyOf : Report → Tally
 tallyOf r = record { clean = r .clean; bad = r .bad; torn = r .torn }

@@ -1,4 +1,3 @@
-pub mod Text
 pub mod Reports
 pub mod Feeding
 pub mod Runs

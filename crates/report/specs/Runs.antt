@@ -5,9 +5,10 @@ use mathlib.Core.List.{List, [], _++_}
 use Prim.Native.Nat.{ℕ, _≤_}
 use lib.ListN.{length, take}
 use lib.Seq.{sets}
+use Rattle.lines.specs.Lines.{lineRoom}
 use Rattle.report.specs.declared.Report.{Report}
 use Rattle.report.specs.declared.Fed.{Fed}
-use Rattle.report.specs.Feeding.{lineRoom, feedUsed, feedState, feedWork, feedLine, closeLine}
+use Rattle.report.specs.Feeding.{feedUsed, feedState, feedWork, feedLine, closeLine}
 
 -- from a state and a work buffer, over the bytes that the calls use, to the bytes that they write; each call has an input, and an
 -- output buffer, of its own

@@ -3,14 +3,11 @@ use crate::Fed;
 use crate::Report;
 use crate::ended;
 use crate::entering;
-use crate::first_line;
-use crate::header::array_in;
-use crate::header::header_refusal;
-use crate::refused_line;
 use crate::stripe_took;
 use crate::stripes::stripe_fit;
-use crate::total_line;
 use layout::Array;
+use lines::HEADER;
+use lines::ROOM;
 use scan::Scan;
 use tag::BLOCK;
 use xor::least;
@@ -19,26 +16,7 @@ ghost use mathlib.Core.Bool.{cond};
 ghost use Prim.Native.Nat.{_+_, _-_, _≤_};
 ghost use lib.ListN.{length, take};
 ghost use lib.Seq.{sets};
-ghost use Rattle.report.specs.Feeding.{
-  Does,
-  holding,
-  headerWhole,
-  headerTook,
-  headerLacks,
-  stripeFit,
-  stripeTook,
-  blockLacks,
-  skipped,
-  stageStep,
-  feedStep,
-  closeLine,
-  freshReport,
-};
-
-// Bytes of a header, and of room that any line has enough of.
-const HEADER: usize = 9;
-
-const ROOM: usize = 128;
+ghost use Rattle.report.specs.Feeding.{Does, holding, headerWhole, headerTook, headerLacks, stripeFit, stripeTook, blockLacks, skipped, stageStep, feedStep, closeLine, freshReport};
 
 // The state of a new report.
 pub fn new() -> Report
@@ -73,9 +51,9 @@ fn header_whole(used: usize, report: Report, work: &mut [u8], out: &mut [u8]) ->
     ensures { λ r. ⌜ Does (headerWhole used report (now (work .entry))) r (now (work .exit)) (now (out .entry)) (now (out .exit)) ⌝ }
 {
     let header = report.header;
-    let refusal = header_refusal(header, HEADER);
+    let refusal = lines::header_refusal(header, HEADER);
     if refusal != 0 {
-        let written = refused_line(out, refusal);
+        let written = lines::refused_line(out, refusal);
         let state = ended(report);
         return Fed {
             state: state,
@@ -83,8 +61,8 @@ fn header_whole(used: usize, report: Report, work: &mut [u8], out: &mut [u8]) ->
             written: written,
         };
     }
-    let array = array_in(header);
-    let written = first_line(out, array);
+    let array = lines::array_in(header);
+    let written = lines::first_line(out, array);
     let begun = scan::start(array, 0, work);
     let scan = begun.state;
     let state = entering(1, header, scan, 0, 0, 0);
@@ -183,7 +161,7 @@ fn stage_step(report: Report, input: &[u8], work: &mut [u8], out: &mut [u8]) -> 
         return stripe_step(report, input, work, out);
     }
     if stage == 2 {
-        let written = refused_line(out, 11);
+        let written = lines::refused_line(out, 11);
         let state = ended(report);
         return Fed {
             state: state,
@@ -229,14 +207,14 @@ pub fn close(state: Report, out: &mut [u8]) -> usize
         return 0;
     }
     if stage == 0 {
-        return refused_line(out, 10);
+        return lines::refused_line(out, 10);
     }
     if stage == 1 {
-        return refused_line(out, 11);
+        return lines::refused_line(out, 11);
     }
     if stage == 2 {
         let array = state.scan.array;
-        return total_line(out, array, state.clean, state.bad, state.torn);
+        return lines::total_line(out, array, state.clean, state.bad, state.torn);
     }
     0
 }

@@ -1,37 +1,22 @@
-// The report of an image that comes in pieces: what is held between the calls, and the lines, each written from the start of a
-// lent buffer.
+// The report of an image that comes in pieces: what is held between the calls, and the steps within a stripe.
 mod feeding;
-mod header;
 mod stripes;
 
 pub use feeding::close;
 pub use feeding::feed;
 pub use feeding::new;
-use layout::Array;
 use scan::Scan;
 use tag::BLOCK;
 use verdict::Scrubbed;
 use verdict::Verdict;
 ghost use mathlib.Core.Path.{_≡_};
 ghost use mathlib.Core.Bool.{true};
-ghost use mathlib.Core.List.{_++_};
 ghost use Prim.Native.Nat.{_+_, _≤_};
 ghost use lib.ListN.{length};
 ghost use Rattle.verdict.specs.Verdicts.{verdictNumbers};
 ghost use Rattle.scan.specs.Scans.{finishNumbers};
-ghost use Rattle.report.specs.Text.{Written, decimal, scrubWord};
-ghost use Rattle.report.specs.Reports.{firstLine, stripeLine, totalLine, refusedLine, counted};
-ghost use Rattle.report.specs.Feeding.{
-  Does,
-  holding,
-  entering,
-  ended,
-  stripeFit,
-  stripeJudged,
-  stripeWhole,
-  stripeTook,
-  blockLacks,
-};
+ghost use Rattle.report.specs.Reports.{counted};
+ghost use Rattle.report.specs.Feeding.{Does, holding, entering, ended, stripeFit, stripeJudged, stripeWhole, stripeTook, blockLacks};
 
 // Where a report stands between the calls, beside the work buffer.
 // stage: 0 in the header, 1 in the stripes, 2 behind the last stripe, 3 when the last line is written.
@@ -51,103 +36,6 @@ pub struct Fed {
     pub state: Report,
     pub used: usize,
     pub written: usize,
-}
-
-// Copies `bytes` into `out` from a place on, and answers the place behind them.
-fn put(out: &mut [u8], at: usize, bytes: &[u8]) -> usize
-    requires { ⌜ at + length (now bytes) ≤ length (now out) ⌝ }
-    ensures { λ r. ⌜ Written (now (out .entry)) at (now (bytes .entry)) (now (out .exit)) r ⌝ }
-{
-    let mut i: usize = 0;
-    while i < bytes.len() {
-        out[at + i] = bytes[i];
-        i += 1;
-    }
-    at + bytes.len()
-}
-
-// Writes a number in decimal, which is at most twenty digits.
-fn number(out: &mut [u8], at: usize, n: u64) -> usize
-    requires { ⌜ at + 20 ≤ length (now out) ⌝ }
-    ensures { λ r. ⌜ r ≤ at + 20 ⌝ }
-    ensures { λ r. ⌜ Written (now (out .entry)) at (decimal n) (now (out .exit)) r ⌝ }
-{
-    let mut digits = [0u8; 20];
-    let count = io::decimal(n, &mut digits);
-    put(out, at, &digits[..count])
-}
-
-// Writes a word and a number behind it.
-fn word_and_number(out: &mut [u8], at: usize, word: &[u8], n: u64) -> usize
-    requires { ⌜ at + length (now word) + 20 ≤ length (now out) ⌝ }
-    ensures { λ r. ⌜ r ≤ at + length (now (word .entry)) + 20 ⌝ }
-    ensures { λ r. ⌜ Written (now (out .entry)) at (now (word .entry) ++ decimal n) (now (out .exit)) r ⌝ }
-{
-    let place = put(out, at, word);
-    number(out, place, n)
-}
-
-// The eight bytes that every report begins with, unless its header is refused.
-fn scrub_word(out: &mut [u8]) -> usize
-    requires { ⌜ 8 ≤ length (now out) ⌝ }
-    ensures { λ r. ⌜ Written (now (out .entry)) 0 scrubWord (now (out .exit)) r ⌝ }
-{
-    put(out, 0, b"SCRUB v1")
-}
-
-// The first line: the array's members and stripes.
-fn first_line(out: &mut [u8], array: Array) -> usize
-    requires { ⌜ 128 ≤ length (now out) ⌝ }
-    ensures { λ r. ⌜ Written (now (out .entry)) 0 (firstLine array) (now (out .exit)) r ⌝ }
-{
-    let members = array.members as u64;
-    let stripes = array.stripes;
-    let word = scrub_word(out);
-    let numbers = word_and_number(out, word, b" members ", members);
-    let line = word_and_number(out, numbers, b" stripes ", stripes);
-    put(out, line, b"\n")
-}
-
-// The line of a stripe: its verdict, with the member and the count or the place.
-fn stripe_line(out: &mut [u8], stripe: u64, verdict: Verdict) -> usize
-    requires { ⌜ 128 ≤ length (now out) ⌝ }
-    ensures { λ r. ⌜ Written (now (out .entry)) 0 (stripeLine stripe (verdictNumbers verdict)) (now (out .exit)) r ⌝ }
-{
-    let at = number(out, 0, stripe);
-    match verdict {
-        Verdict::Clean => put(out, at, b" CLEAN\n"),
-        Verdict::Bad { member, count } => {
-            let lowest = word_and_number(out, at, b" BAD ", member as u64);
-            let line = word_and_number(out, lowest, b" ", count as u64);
-            put(out, line, b"\n")
-        }
-        Verdict::Torn { place } => {
-            let line = word_and_number(out, at, b" TORN ", place as u64);
-            put(out, line, b"\n")
-        }
-    }
-}
-
-// The last line: how many stripes there are, and how many of them were clean, bad and torn.
-fn total_line(out: &mut [u8], array: Array, clean: u64, bad: u64, torn: u64) -> usize
-    requires { ⌜ 128 ≤ length (now out) ⌝ }
-    ensures { λ r. ⌜ Written (now (out .entry)) 0 (totalLine array (record { clean = clean; bad = bad; torn = torn })) (now (out .exit)) r ⌝ }
-{
-    let stripes = array.stripes;
-    let total = word_and_number(out, 0, b"TOTAL ", stripes);
-    let cleans = word_and_number(out, total, b" clean ", clean);
-    let bads = word_and_number(out, cleans, b" bad ", bad);
-    let line = word_and_number(out, bads, b" torn ", torn);
-    put(out, line, b"\n")
-}
-
-// The line of a refusal.
-fn refused_line(out: &mut [u8], refusal: u8) -> usize
-    requires { ⌜ 128 ≤ length (now out) ⌝ }
-    ensures { λ r. ⌜ Written (now (out .entry)) 0 (refusedLine refusal) (now (out .exit)) r ⌝ }
-{
-    let line = word_and_number(out, 0, b"REFUSED ", refusal as u64);
-    put(out, line, b"\n")
 }
 
 // The state at the start of a stage or of a stripe.
@@ -235,7 +123,7 @@ fn stripe_judged(
     let array = scan.array;
     let stripe = scan.stripe;
     let stripes = array.stripes;
-    let written = stripe_line(out, stripe, verdict);
+    let written = lines::stripe_line(out, stripe, verdict);
     let counts = count_one(report.clean, report.bad, report.torn, verdict);
     let clean = counts.clean;
     let bad = counts.bad;
@@ -269,7 +157,7 @@ fn stripe_whole(used: usize, report: Report, work: &mut [u8], out: &mut [u8]) ->
     let answer = scan::finish(scan, work);
     match answer {
         Scrubbed::Refused(number) => {
-            let written = refused_line(out, number);
+            let written = lines::refused_line(out, number);
             let state = ended(report);
             Fed {
                 state: state,

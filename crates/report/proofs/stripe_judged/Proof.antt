@@ -1,6 +1,7 @@
 -- `report::stripe_judged` meets its contract: another stripe begins, or it was the last. Assumes nothing.
 use borrow.Author.Needs.{needs}
 use Rattle.verdict.specs.Verdicts.{verdictNumbers}
+use Rattle.lines.proofs.Lines.{written-whole}
 use Rattle.report.proofs.StripeSteps.{next-begins, last-judged}
 use Rattle.report.proofs.stripe_judged.Statement.{statement}
 use Rattle.report.proofs.stripe_judged.Tie as tie
@@ -32,9 +33,10 @@ returns c =
     let i = begun .before .before in
     let counts = i .before in
     let line = counts .before .before .before in
-    let a = line .before .before .before .before .before .before .before .args in
-    next-begins (a .used) (a .report) (a .work .now) (verdictNumbers (a .verdict)) (line .stripe-line .ensures) (counts .count-one .ensures)
-    (i .if1 .taken) (begun .start .ensures .1 .0) (begun .start .ensures .1 .1) (c .entering .ensures)
+    let start = line .before .before .before .before .before .before .before in
+    let a = start .args in
+    next-begins (a .used) (a .report) (a .work .now) (verdictNumbers (a .verdict)) (written-whole (start .pre .0) (line .stripe-line .ensures))
+    (counts .count-one .ensures) (i .if1 .taken) (begun .start .ensures .1 .0) (begun .start .ensures .1 .1) (c .entering .ensures)
 
 entering-requires-2 : tie.Need-entering-requires-2
 entering-requires-2 c κs = search needs
@@ -47,9 +49,10 @@ returns-2 c =
     let i = c .before in
     let counts = i .before in
     let line = counts .before .before .before in
-    let a = line .before .before .before .before .before .before .before .args in
-    last-judged (a .used) (a .report) (a .work .now) (verdictNumbers (a .verdict)) (line .stripe-line .ensures) (counts .count-one .ensures)
-    (i .if1 .left) (c .entering2 .ensures)
+    let start = line .before .before .before .before .before .before .before in
+    let a = start .args in
+    last-judged (a .used) (a .report) (a .work .now) (verdictNumbers (a .verdict)) (written-whole (start .pre .0) (line .stripe-line .ensures))
+    (counts .count-one .ensures) (i .if1 .left) (c .entering2 .ensures)
 
 pub stripe-judged-spec : {M : Type 1} → statement M
 stripe-judged-spec =

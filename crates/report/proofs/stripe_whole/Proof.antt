@@ -1,5 +1,6 @@
 -- `report::stripe_whole` meets its contract: the scan refuses, or has a verdict. Assumes nothing.
 use borrow.Author.Needs.{needs}
+use Rattle.lines.proofs.Lines.{written-whole}
 use Rattle.report.proofs.StripeSteps.{not-judged, judged-by}
 use Rattle.report.proofs.stripe_whole.Statement.{statement}
 use Rattle.report.proofs.stripe_whole.Tie as tie
@@ -33,8 +34,10 @@ returns c =
     let line = c .before .before .before in
     let told = line .before .before .before in
     let asked = told .before .before in
-    let a = asked .before .before .before .before .before .args in
-    not-judged (a .used) (a .report) (a .work .now) (asked .finish .ensures) (told .answer .given .1) (line .refused-line .ensures) (c .ended .ensures)
+    let start = asked .before .before .before .before .before in
+    let a = start .args in
+    not-judged (a .used) (a .report) (a .work .now) (asked .finish .ensures) (told .answer .given .1)
+    (written-whole (start .pre .0) (line .refused-line .ensures)) (c .ended .ensures)
 
 same-length-3 : tie.Need-same-length-3
 same-length-3 c = search needs

@@ -1,4 +1,5 @@
 -- `report::feeding::close` meets its contract, stage by stage. Assumes nothing.
+use Rattle.lines.proofs.Lines.{written-whole}
 use Rattle.report.proofs.Doing.{
   no-room-to-close,
   closed-in-header,
@@ -28,7 +29,8 @@ returns-2 c =
     let l = c .before .before in
     let i = l .before .before in
     let a = i .before .before .before .args in
-    line-closes _ _ _ _ _ (closed-in-header (a .state) _ (i .before .if1 .left) (i .if2 .taken)) (l .refused-line .ensures)
+    let room = i .before .if1 .left in
+    line-closes _ _ _ _ _ (closed-in-header (a .state) _ room (i .if2 .taken)) (written-whole room (l .refused-line .ensures))
 
 refused-line-requires-2 : tie.Need-refused-line-requires-2
 refused-line-requires-2 c κs = search needs
@@ -41,7 +43,8 @@ returns-3 c =
     let l = c .before .before in
     let i = l .before .before in
     let a = i .before .before .before .before .args in
-    line-closes _ _ _ _ _ (closed-in-stripes (a .state) _ (i .before .before .if1 .left) (i .if3 .taken)) (l .refused-line2 .ensures)
+    let room = i .before .before .if1 .left in
+    line-closes _ _ _ _ _ (closed-in-stripes (a .state) _ room (i .if3 .taken)) (written-whole room (l .refused-line2 .ensures))
 
 total-line-requires : tie.Need-total-line-requires
 total-line-requires c κs = search needs
@@ -54,7 +57,8 @@ returns-4 c =
     let l = c .before .before in
     let i = l .before .before .before in
     let a = i .before .before .before .before .before .args in
-    line-closes _ _ _ _ _ (closed-behind (a .state) _ (i .before .before .before .if1 .left) (i .if4 .taken)) (l .total-line .ensures)
+    let room = i .before .before .before .if1 .left in
+    line-closes _ _ _ _ _ (closed-behind (a .state) _ room (i .if4 .taken)) (written-whole room (l .total-line .ensures))
 
 returns-5 : tie.Need-returns-5
 returns-5 c =

@@ -1,4 +1,5 @@
 -- `report::feeding::stage_step` meets its contract, stage by stage. Assumes nothing.
+use Rattle.lines.proofs.Lines.{written-whole}
 use Rattle.report.proofs.Doing.{stage-of-header, stage-of-stripes, stage-of-last, stage-over}
 use borrow.Author.Needs.{needs}
 use Rattle.report.proofs.feeding.stage_step.Statement.{statement}
@@ -49,9 +50,10 @@ returns-3 : tie.Need-returns-3
 returns-3 c =
     let l = c .before .before .before in
     let i = l .before .before in
-    let a = i .before .before .before .before .before .before .args in
+    let start = i .before .before .before .before .before .before in
+    let a = start .args in
     stage-of-last (a .report) (a .input .now) (a .work .now) _ (c .ended .result) (l .refused-line .result) _ (i .if3 .taken) (c .ended .ensures)
-    (l .refused-line .ensures)
+    (written-whole (start .pre) (l .refused-line .ensures))
 
 returns-4 : tie.Need-returns-4
 returns-4 c =

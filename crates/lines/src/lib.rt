@@ -1,0 +1,122 @@
+// The lines of a report, each written from the start of a lent buffer, and the header of an image.
+mod header;
+
+pub use header::HEADER;
+pub use header::array_in;
+pub use header::header_refusal;
+use layout::Array;
+use verdict::Verdict;
+ghost use mathlib.Core.List.{_++_};
+ghost use Prim.Native.Nat.{_+_, _≤_};
+ghost use lib.ListN.{length};
+ghost use Rattle.verdict.specs.Verdicts.{verdictNumbers};
+ghost use Rattle.lines.specs.Text.{Written, decimal, scrubWord};
+ghost use Rattle.lines.specs.Lines.{fitting, firstLine, stripeLine, totalLine, refusedLine};
+
+// Bytes of room that any line has enough of; with less a line is not written, and 0 is answered.
+pub const ROOM: usize = 128;
+
+// Copies `bytes` into `out` from a place on, and answers the place behind them.
+fn put(out: &mut [u8], at: usize, bytes: &[u8]) -> usize
+    requires { ⌜ at + length (now bytes) ≤ length (now out) ⌝ }
+    ensures { λ r. ⌜ Written (now (out .entry)) at (now (bytes .entry)) (now (out .exit)) r ⌝ }
+{
+    let mut i: usize = 0;
+    while i < bytes.len() {
+        out[at + i] = bytes[i];
+        i += 1;
+    }
+    at + bytes.len()
+}
+
+// Writes a number in decimal, which is at most twenty digits.
+fn number(out: &mut [u8], at: usize, n: u64) -> usize
+    requires { ⌜ at + 20 ≤ length (now out) ⌝ }
+    ensures { λ r. ⌜ r ≤ at + 20 ⌝ }
+    ensures { λ r. ⌜ Written (now (out .entry)) at (decimal n) (now (out .exit)) r ⌝ }
+{
+    let mut digits = [0u8; 20];
+    let count = io::decimal(n, &mut digits);
+    put(out, at, &digits[..count])
+}
+
+// Writes a word and a number behind it.
+fn word_and_number(out: &mut [u8], at: usize, word: &[u8], n: u64) -> usize
+    requires { ⌜ at + length (now word) + 20 ≤ length (now out) ⌝ }
+    ensures { λ r. ⌜ r ≤ at + length (now (word .entry)) + 20 ⌝ }
+    ensures { λ r. ⌜ Written (now (out .entry)) at (now (word .entry) ++ decimal n) (now (out .exit)) r ⌝ }
+{
+    let place = put(out, at, word);
+    number(out, place, n)
+}
+
+// The eight bytes that every report begins with, unless its header is refused.
+fn scrub_word(out: &mut [u8]) -> usize
+    requires { ⌜ 8 ≤ length (now out) ⌝ }
+    ensures { λ r. ⌜ Written (now (out .entry)) 0 scrubWord (now (out .exit)) r ⌝ }
+{
+    put(out, 0, b"SCRUB v1")
+}
+
+// The first line: the array's members and stripes.
+pub fn first_line(out: &mut [u8], array: Array) -> usize
+    ensures { λ r. ⌜ Written (now (out .entry)) 0 (fitting (length (now (out .entry))) (firstLine array)) (now (out .exit)) r ⌝ }
+{
+    if out.len() < ROOM {
+        return 0;
+    }
+    let members = array.members as u64;
+    let stripes = array.stripes;
+    let word = scrub_word(out);
+    let numbers = word_and_number(out, word, b" members ", members);
+    let line = word_and_number(out, numbers, b" stripes ", stripes);
+    put(out, line, b"\n")
+}
+
+// The line of a stripe: its verdict, with the member and the count or the place.
+pub fn stripe_line(out: &mut [u8], stripe: u64, verdict: Verdict) -> usize
+    ensures { λ r. ⌜ Written (now (out .entry)) 0 (fitting (length (now (out .entry))) (stripeLine stripe (verdictNumbers verdict))) (now (out .exit)) r ⌝ }
+{
+    if out.len() < ROOM {
+        return 0;
+    }
+    let at = number(out, 0, stripe);
+    match verdict {
+        Verdict::Clean => put(out, at, b" CLEAN\n"),
+        Verdict::Bad { member, count } => {
+            let lowest = word_and_number(out, at, b" BAD ", member as u64);
+            let line = word_and_number(out, lowest, b" ", count as u64);
+            put(out, line, b"\n")
+        }
+        Verdict::Torn { place } => {
+            let line = word_and_number(out, at, b" TORN ", place as u64);
+            put(out, line, b"\n")
+        }
+    }
+}
+
+// The last line: how many stripes there are, and how many of them were clean, bad and torn.
+pub fn total_line(out: &mut [u8], array: Array, clean: u64, bad: u64, torn: u64) -> usize
+    ensures { λ r. ⌜ Written (now (out .entry)) 0 (fitting (length (now (out .entry))) (totalLine array (record { clean = clean; bad = bad; torn = torn }))) (now (out .exit)) r ⌝ }
+{
+    if out.len() < ROOM {
+        return 0;
+    }
+    let stripes = array.stripes;
+    let total = word_and_number(out, 0, b"TOTAL ", stripes);
+    let cleans = word_and_number(out, total, b" clean ", clean);
+    let bads = word_and_number(out, cleans, b" bad ", bad);
+    let line = word_and_number(out, bads, b" torn ", torn);
+    put(out, line, b"\n")
+}
+
+// The line of a refusal.
+pub fn refused_line(out: &mut [u8], refusal: u8) -> usize
+    ensures { λ r. ⌜ Written (now (out .entry)) 0 (fitting (length (now (out .entry))) (refusedLine refusal)) (now (out .exit)) r ⌝ }
+{
+    if out.len() < ROOM {
+        return 0;
+    }
+    let line = word_and_number(out, 0, b"REFUSED ", refusal as u64);
+    put(out, line, b"\n")
+}
