@@ -33,17 +33,20 @@ mix-none [] x k = refl
 mix-none (d ∷ ds) x k = ap (λ (y : ℕ). mix ds y [] k) (xor-zero-r x) ∙ mix-none ds x k
 
 -- where w has zeros, the byte is as it comes
-pub mix-blank : (ds : List ℕ) (z x : ℕ) (w : List ℕ) (q : ℕ) → Below ds z → ((j : ℕ) → j < q + z → getD w j 0 ≡ 0) → mix ds x w q ≡ x
+pub mix-blank : (ds : List ℕ) (z x : ℕ) (w : List ℕ) (q : ℕ) → Below ds z → ((d : ℕ) → d < z → getD w (q + d) 0 ≡ 0) → mix ds x w q ≡ x
 mix-blank [] z x w q h blank = refl
 mix-blank (d ∷ ds) z x w q h blank =
-    let l : d < z = h .0 in
-    ap (λ (y : ℕ). mix ds (bitXor x y) w q) (blank (q + d) (omega arith)) ∙ ap (λ (y : ℕ). mix ds y w q) (xor-zero-r x) ∙ mix-blank ds z x w q (h .1) blank
+    ap (λ (y : ℕ). mix ds (bitXor x y) w q) (blank d (h .0)) ∙ ap (λ (y : ℕ). mix ds y w q) (xor-zero-r x) ∙ mix-blank ds z x w q (h .1) blank
 
 -- ---- the lane
 
 -- nothing was taken away yet
 pub lane-start : (ds : List ℕ) (o m n : ℕ) (b : List ℕ) (p size q : ℕ) → Lane ds o m n [] b p (zeros size) q 0
 lane-start ds o m n b p size q = record { front = λ j l. zeros-at size (q + j); back = λ j g l. zeros-at size (q + j); made = λ k l. absurd (omega arith) }
+
+-- where nothing was taken away yet, any bytes may be
+pub lane-any : (ds : List ℕ) (o m n : ℕ) (b c : List ℕ) (p r : ℕ) (w : List ℕ) (q i : ℕ) → Lane ds o m n [] b p w q i → Lane ds o m n [] c r w q 0
+lane-any ds o m n b c p r w q i lane = record { front = lane .front; back = lane .back; made = λ k l. absurd (omega arith) }
 
 -- c bytes more
 pub lane-more : (ds : List ℕ) (z o m n c : ℕ) (head b : List ℕ) (p : ℕ) (w : List ℕ) (q i : ℕ) (u : List ℕ) → Below ds z → z + c ≤ suc o → 0 < c → i + c ≤ m

@@ -2,5 +2,6 @@ pub mod Strides
 pub mod Taken
 pub mod Buffers
 pub mod Multiples
+pub mod Nears
 pub mod Carrying
 pub mod Puts

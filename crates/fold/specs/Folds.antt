@@ -44,8 +44,9 @@ pub record Lane (ds : List ℕ) (o m n : ℕ) (head b : List ℕ) (p : ℕ) (w :
   pub back : (j : ℕ) → o + m ≤ j → j < o + m + n → getD w (q + j) 0 ≡ 0
   pub made : (k : ℕ) → k < i → getD w (q + o + k) 0 ≡ mix ds (getD b (p + k) 0) w (q + k)
 
--- the n bytes of b that are left, with what was taken away before them: t is u now, which has them at s
+-- the n bytes of b that come after m, with what was taken away before them: t is u now, which has them at s
 pub record Tail (ds : List ℕ) (m n : ℕ) (b : List ℕ) (p : ℕ) (w : List ℕ) (q : ℕ) (t : List ℕ) (s : ℕ) (u : List ℕ) : Type 0 where
   pub long : length u ≡ length t
   pub before : (j : ℕ) → j < s → getD u j 0 ≡ getD t j 0
+  pub after : (j : ℕ) → s + n ≤ j → getD u j 0 ≡ getD t j 0
   pub made : (k : ℕ) → k < n → getD u (s + k) 0 ≡ mix ds (getD b (p + m + k) 0) w (q + m + k)

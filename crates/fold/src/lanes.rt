@@ -1,14 +1,16 @@
 // The guards of many blocks in one call, eight side by side: their folds and their ways through the tables do not wait for one another.
 ghost use mathlib.Core.Path.{_≡_};
-ghost use Prim.Native.Nat.{_+_, _*_, _≤_, min};
-ghost use lib.ListN.{length, take};
+ghost use Prim.Native.Nat.{ℕ, _+_, _*_, _≤_, _<_, min};
+ghost use lib.ListN.{length, getD, take};
 ghost use Rattle.crc.specs.Crc.{Bytes};
 ghost use Rattle.crc.specs.Guard.{guard};
 ghost use Rattle.table.specs.Tables.{lows, highs};
 ghost use Rattle.crc.specs.Blocks.{guardsOf};
-ghost use Rattle.fold.specs.Eights.{Lanes, Tails, Ran};
+ghost use Rattle.fold.specs.Folds.{Blank};
+ghost use Rattle.fold.specs.Eights.{Lanes, Ready, Head, Heads, Tails, Nears, Folded, Ran};
 use crate::by_folds;
 use crate::chunk;
+use crate::near_tail;
 use crate::tail;
 use crate::two;
 use xor::least;
@@ -81,7 +83,35 @@ fn rows(b: &[u8], stride: usize, w: &mut [u8])
     }
 }
 
-// The 64 bytes that are left of each of eight blocks.
+// The first 24 of the 64 bytes that are left of a block, into zeros. 32 are written, as vectors go, and the last 8 cleared again.
+fn head(b: &[u8], p: usize, w: &[u8], q: usize, v: &mut [u8], s: usize)
+    requires { ⌜ (p + 512 ≤ length (now b)) × (q + 576 ≤ length (now w)) ⌝ }
+    requires { ⌜ (s + 104 ≤ length (now v)) × ((j : ℕ) → s ≤ j → getD (now v) j 0 ≡ 0) ⌝ }
+    ensures { λ _. ⌜ (length (now (v .exit)) ≡ length (now (v .entry))) × ((j : ℕ) → j < s → getD (now (v .exit)) j 0 ≡ getD (now (v .entry)) j 0) × Head (now (b .entry)) p (now (w .entry)) q (now (v .exit)) s × ((j : ℕ) → s + 104 ≤ j → getD (now (v .exit)) j 0 ≡ 0) ⌝ }
+{
+    tail(448, 32, 28, 8, 1, b, p, w, q, v, s + 40);
+    let mut j: usize = 0;
+    while j < 8 {
+        v[s + 64 + j] = 0;
+        j += 1;
+    }
+}
+
+// The first 24 of the 64 bytes that are left of each of eight blocks.
+fn heads(b: &[u8], stride: usize, w: &[u8], v: &mut [u8])
+    requires { ⌜ 7 * stride + 512 ≤ length (now b) ⌝ }
+    requires { ⌜ length (now w) ≡ 4608 ⌝ }
+    requires { ⌜ (length (now v) ≡ 832) × Blank (now v) ⌝ }
+    ensures { λ _. ⌜ (length (now (v .exit)) ≡ 832) × Bytes (now (v .exit)) × Heads stride (now (b .entry)) (now (w .entry)) (now (v .exit)) 8 ⌝ }
+{
+    let mut l: usize = 0;
+    while l < 8 {
+        head(b, l * stride, w, l * 576, v, l * 104);
+        l += 1;
+    }
+}
+
+// The last 48 of the 64 bytes that are left of each of eight blocks.
 fn tails(b: &[u8], stride: usize, w: &[u8], t: &mut [u8])
     requires { ⌜ 7 * stride + 512 ≤ length (now b) ⌝ }
     requires { ⌜ length (now w) ≡ 4608 ⌝ }
@@ -90,52 +120,83 @@ fn tails(b: &[u8], stride: usize, w: &[u8], t: &mut [u8])
 {
     let mut l: usize = 0;
     while l < 8 {
-        tail(448, 64, 28, 8, 1, b, l * stride, w, l * 576, t, l * 64);
+        tail(464, 48, 28, 8, 1, b, l * stride, w, l * 576, t, l * 64 + 16);
         l += 1;
     }
 }
 
-// Two bytes more of each of eight pieces of 64, by the tables.
-fn turn(high: &[u16; 256], low: &[u16; 256], t: &[u8], i: usize, r: &mut [u16])
-    requires { ⌜ now high ≡ highs ⌝ }
-    requires { ⌜ now low ≡ lows ⌝ }
-    requires { ⌜ (length (now t) ≡ 512) × (i + 2 ≤ 64) × (length (now r) ≡ 8) × Ran (now t) (now r) i ⌝ }
-    ensures { λ _. ⌜ (length (now (r .exit)) ≡ 8) × Ran (now (t .entry)) (now (r .exit)) (i + 2) ⌝ }
+// Takes away 24 of the 64 bytes that are left of each of eight blocks: each goes 24, 29, 32 and 39 places on. The other 40 are wanted; 48 are
+// written, as vectors go.
+fn nears(t: &[u8], v: &[u8], u: &mut [u8])
+    requires { ⌜ (length (now t) ≡ 512) × (length (now v) ≡ 832) ⌝ }
+    requires { ⌜ length (now u) ≡ 512 ⌝ }
+    ensures { λ _. ⌜ (length (now (u .exit)) ≡ 512) × Nears (now (t .entry)) (now (v .entry)) (now (u .exit)) 8 ⌝ }
 {
     let mut l: usize = 0;
     while l < 8 {
-        r[l] = two(high, low, r[l], t[l * 64 + i], t[l * 64 + i + 1]);
+        near_tail(16, 48, t, l * 64, v, l * 104, u, l * 64 + 16);
         l += 1;
     }
 }
 
-// The guards of eight pieces of 64.
-fn ends(high: &[u16; 256], low: &[u16; 256], t: &[u8], r: &mut [u16])
+// Folds eight blocks to the last 40 bytes of eight pieces of 64. The buffer w is lent, so that its zeros are made once.
+fn fold_eight(b: &[u8], stride: usize, w: &mut [u8]) -> [u8; 512]
+    requires { ⌜ 7 * stride + 512 ≤ length (now b) ⌝ }
+    requires { ⌜ (length (now w) ≡ 4608) × Ready (now w) ⌝ }
+    ensures { λ u. ⌜ Folded stride (now (b .entry)) u ⌝ }
+    ensures { λ _. ⌜ (length (now (w .exit)) ≡ 4608) × Ready (now (w .exit)) ⌝ }
+{
+    rows(b, stride, w);
+    let mut v = [0u8; 832];
+    heads(b, stride, w, &mut v);
+    let mut t = [0u8; 512];
+    tails(b, stride, w, &mut t);
+    let mut u = [0u8; 512];
+    nears(&t, &v, &mut u);
+    u
+}
+
+// Two bytes more of the last 40 of each of eight pieces of 64, by the tables.
+fn turn(high: &[u16; 256], low: &[u16; 256], u: &[u8], i: usize, r: &mut [u16])
     requires { ⌜ now high ≡ highs ⌝ }
     requires { ⌜ now low ≡ lows ⌝ }
-    requires { ⌜ (length (now t) ≡ 512) × (length (now r) ≡ 8) × Ran (now t) (now r) 0 ⌝ }
-    ensures { λ _. ⌜ (length (now (r .exit)) ≡ 8) × Ran (now (t .entry)) (now (r .exit)) 64 ⌝ }
+    requires { ⌜ (length (now u) ≡ 512) × (i + 2 ≤ 40) × (length (now r) ≡ 8) × Ran (now u) (now r) i ⌝ }
+    ensures { λ _. ⌜ (length (now (r .exit)) ≡ 8) × Ran (now (u .entry)) (now (r .exit)) (i + 2) ⌝ }
+{
+    let mut l: usize = 0;
+    while l < 8 {
+        let at = l * 64 + 24 + i;
+        r[l] = two(high, low, r[l], u[at], u[at + 1]);
+        l += 1;
+    }
+}
+
+// The guards of the last 40 bytes of eight pieces of 64.
+fn ends(high: &[u16; 256], low: &[u16; 256], u: &[u8], r: &mut [u16])
+    requires { ⌜ now high ≡ highs ⌝ }
+    requires { ⌜ now low ≡ lows ⌝ }
+    requires { ⌜ (length (now u) ≡ 512) × (length (now r) ≡ 8) × Ran (now u) (now r) 0 ⌝ }
+    ensures { λ _. ⌜ (length (now (r .exit)) ≡ 8) × Ran (now (u .entry)) (now (r .exit)) 40 ⌝ }
 {
     let mut i: usize = 0;
-    while i < 63 {
-        turn(high, low, t, i, r);
+    while i < 39 {
+        turn(high, low, u, i, r);
         i += 2;
     }
 }
 
 // The guards of eight runs of 512 bytes, side by side.
-fn beside(high: &[u16; 256], low: &[u16; 256], b: &[u8], stride: usize) -> [u16; 8]
+fn beside(high: &[u16; 256], low: &[u16; 256], b: &[u8], stride: usize, w: &mut [u8]) -> [u16; 8]
     requires { ⌜ now high ≡ highs ⌝ }
     requires { ⌜ now low ≡ lows ⌝ }
     requires { ⌜ 7 * stride + 512 ≤ length (now b) ⌝ }
+    requires { ⌜ (length (now w) ≡ 4608) × Ready (now w) ⌝ }
     ensures { λ r. ⌜ r ≡ guardsOf 8 stride (now (b .entry)) ⌝ }
+    ensures { λ _. ⌜ (length (now (w .exit)) ≡ 4608) × Ready (now (w .exit)) ⌝ }
 {
-    let mut w = [0u8; 4608];
-    rows(b, stride, &mut w);
-    let mut t = [0u8; 512];
-    tails(b, stride, &w, &mut t);
+    let u = fold_eight(b, stride, w);
     let mut r = [0u16; 8];
-    ends(high, low, &t, &mut r);
+    ends(high, low, &u, &mut r);
     r
 }
 
@@ -152,15 +213,24 @@ fn copy(out: &mut [u16], from: [u16; 8])
 }
 
 // The guards of eight runs, side by side where all their bytes are there.
-fn eight(high: &[u16; 256], low: &[u16; 256], bytes: &[u8], stride: usize, out: &mut [u16])
+fn eight(
+    high: &[u16; 256],
+    low: &[u16; 256],
+    bytes: &[u8],
+    stride: usize,
+    w: &mut [u8],
+    out: &mut [u16],
+)
     requires { ⌜ now high ≡ highs ⌝ }
     requires { ⌜ now low ≡ lows ⌝ }
+    requires { ⌜ (length (now w) ≡ 4608) × Ready (now w) ⌝ }
     requires { ⌜ length (now out) ≡ 8 ⌝ }
+    ensures { λ _. ⌜ (length (now (w .exit)) ≡ 4608) × Ready (now (w .exit)) ⌝ }
     ensures { λ _. ⌜ now (out .exit) ≡ guardsOf 8 stride (now (bytes .entry)) ⌝ }
 {
     if 512 <= bytes.len() {
         if stride <= (bytes.len() - 512) / 7 {
-            copy(out, beside(high, low, bytes, stride));
+            copy(out, beside(high, low, bytes, stride, w));
             return;
         }
     }
@@ -174,9 +244,10 @@ fn sixteen(high: &[u16; 256], low: &[u16; 256], bytes: &[u8], stride: usize) -> 
     ensures { λ r. ⌜ r ≡ guardsOf 16 stride (now (bytes .entry)) ⌝ }
 {
     let mut found = [0u16; 16];
+    let mut w = [0u8; 4608];
     let from = ninth(stride, bytes.len());
-    eight(high, low, bytes, stride, &mut found[0..8]);
-    eight(high, low, &bytes[from..], stride, &mut found[8..16]);
+    eight(high, low, bytes, stride, &mut w, &mut found[0..8]);
+    eight(high, low, &bytes[from..], stride, &mut w, &mut found[8..16]);
     found
 }
 

@@ -167,14 +167,15 @@ fn take_near(b: &[u8], w: &mut [u8])
     }
 }
 
-// What is left: the 40 bytes after the 24, each with what belongs to it.
-fn near_tail(b: &[u8], w: &[u8], t: &mut [u8])
-    requires { ⌜ (length (now b) ≡ 64) × (length (now w) ≡ 104) × (length (now t) ≡ 40) ⌝ }
-    ensures { λ _. ⌜ (length (now (t .exit)) ≡ 40) × ((k : ℕ) → k < 40 → getD (now (t .exit)) k 0 ≡ mix (16 ∷ 11 ∷ 8 ∷ 1 ∷ []) (getD (now (b .entry)) (24 + k) 0) (now (w .entry)) (24 + k)) ⌝ }
+// The same as `tail`, with the four distances.
+fn near_tail(m: usize, n: usize, b: &[u8], p: usize, w: &[u8], q: usize, t: &mut [u8], s: usize)
+    requires { ⌜ (p + m + n ≤ length (now b)) × (s + n ≤ length (now t)) ⌝ }
+    requires { ⌜ q + m + n + 16 ≤ length (now w) ⌝ }
+    ensures { λ _. ⌜ Tail (16 ∷ 11 ∷ 8 ∷ 1 ∷ []) m n (now (b .entry)) p (now (w .entry)) q (now (t .entry)) s (now (t .exit)) ⌝ }
 {
     let mut j: usize = 0;
-    while j < 40 {
-        t[j] = mixed_four(b, 24 + j, w, 24 + j);
+    while j < n {
+        t[s + j] = mixed_four(b, p + m + j, w, q + m + j);
         j += 1;
     }
 }
@@ -186,7 +187,7 @@ fn to_40(b: &[u8; 64]) -> [u8; 40]
     let mut w = [0u8; 104];
     take_near(b, &mut w);
     let mut t = [0u8; 40];
-    near_tail(b, &w, &mut t);
+    near_tail(24, 40, b, 0, &w, 0, &mut t, 0);
     t
 }
 

@@ -1,4 +1,4 @@
--- `fold::near_tail` meets its contract. The invariant: what is written so far.
+-- `fold::near_tail` meets its contract. The invariant: what is written so far; what stands before it and after it stays.
 -- Assumes nothing.
 use mathlib.Core.Path.{_≡_, _∙_}
 use mathlib.Core.List.{[], _∷_}
@@ -6,16 +6,18 @@ use Prim.Native.Nat.{ℕ, _+_, _-_, _≤_, _<_}
 use native.Mathlib.Omega.{arith}
 use lib.ListN.{length, getD, length-set}
 use Rattle.fold.specs.Folds.{mix}
-use Rattle.fold.proofs.Puts.{put-first}
-use borrow.Author.Needs.{needs}
+use Rattle.fold.proofs.Puts.{put-next}
+use borrow.Author.Needs.{needs, read-below, read-above}
 use Rattle.fold.proofs.near_tail.Statement.{statement}
 use Rattle.fold.proofs.near_tail.Tie as tie
 
 abbrev Inv-loop : tie.InvT-loop
-Inv-loop b w t₀ j₀ t j = (j ≤ 40) × (length t ≡ 40) × ((k : ℕ) → k < j → getD t k 0 ≡ mix (16 ∷ 11 ∷ 8 ∷ 1 ∷ []) (getD b (24 + k) 0) w (24 + k))
+Inv-loop m n b p w q t₀ s j₀ t j =
+    (j ≤ n) × (length t ≡ length t₀) × ((i : ℕ) → i < s → getD t i 0 ≡ getD t₀ i 0) × ((i : ℕ) → s + j ≤ i → getD t i 0 ≡ getD t₀ i 0)
+    × ((k : ℕ) → k < j → getD t (s + k) 0 ≡ mix (16 ∷ 11 ∷ 8 ∷ 1 ∷ []) (getD b (p + m + k) 0) w (q + m + k))
 
 abbrev μ-loop : tie.MeasureT-loop
-μ-loop b w t₀ j₀ t j = 40 - j
+μ-loop m n b p w q t₀ s j₀ t j = n - j
 
 loop-holds : tie.Need-loop-holds Inv-loop μ-loop
 loop-holds c = search needs
@@ -26,8 +28,17 @@ add-mixed-four c = search needs
 add-mixed-four-2 : tie.Need-add-mixed-four-2 Inv-loop μ-loop
 add-mixed-four-2 c = search needs
 
+add-mixed-four-3 : tie.Need-add-mixed-four-3 Inv-loop μ-loop
+add-mixed-four-3 c = search needs
+
+add-mixed-four-4 : tie.Need-add-mixed-four-4 Inv-loop μ-loop
+add-mixed-four-4 c = search needs
+
 mixed-four-requires : tie.Need-mixed-four-requires Inv-loop μ-loop
 mixed-four-requires c κs = search needs
+
+add-t : tie.Need-add-t Inv-loop μ-loop
+add-t c = search needs
 
 slice-write-t : tie.Need-slice-write-t Inv-loop μ-loop
 slice-write-t c = search needs
@@ -42,17 +53,22 @@ loop-again : tie.Need-loop-again Inv-loop μ-loop
 loop-again c =
     let a = c .before .before .before .before .before .before .args in
     let at = c .before .before .loop in
+    let to = a .s + at .j in
     let v = c .mixed-four .result in (
       omega arith,
-      length-set (at .t) (at .j) v ∙ at .inv .1,
-      put-first (at .t) (at .j) v (λ k. mix (16 ∷ 11 ∷ 8 ∷ 1 ∷ []) (getD (a .b .now) (24 + k) 0) (a .w .now) (24 + k)) (omega arith) (at .inv .2) (c .mixed-four .ensures),
+      length-set (at .t) to v ∙ at .inv .1,
+      (λ i h. read-below ℕ (at .t) to i v 0 (getD (a .t .now) i 0) (omega arith) (at .inv .2 i h)),
+      (λ i h. read-above ℕ (at .t) to i v 0 (getD (a .t .now) i 0) (omega arith) (at .inv .3 i (omega arith))),
+      put-next (at .t) (a .s) (at .j) v (λ k. mix (16 ∷ 11 ∷ 8 ∷ 1 ∷ []) (getD (a .b .now) (a .p + a .m + k) 0) (a .w .now) (a .q + a .m + k)) (search needs) (at .inv .4) (c .mixed-four .ensures),
     )
 
 same-length : tie.Need-same-length Inv-loop μ-loop
 same-length c = search needs
 
 returns : tie.Need-returns Inv-loop μ-loop
-returns c = let at = c .before .loop in (at .inv .1, (λ k h. at .inv .2 k (omega arith)))
+returns c =
+    let at = c .before .loop in
+    record { long = at .inv .1; before = at .inv .2; after = λ j h. at .inv .3 j (omega arith); made = λ k h. at .inv .4 k (omega arith) }
 
 pub near-tail-spec : {M : Type 1} → statement M
-near-tail-spec = tie.close (tie.spec Inv-loop μ-loop loop-holds add-mixed-four add-mixed-four-2 mixed-four-requires slice-write-t add-j loop-less loop-again same-length returns)
+near-tail-spec = tie.close (tie.spec Inv-loop μ-loop loop-holds add-mixed-four add-mixed-four-2 add-mixed-four-3 add-mixed-four-4 mixed-four-requires add-t slice-write-t add-j loop-less loop-again same-length returns)

@@ -1,4 +1,4 @@
--- `fold::tail` meets its contract. The invariant: what is written so far; what stands before it stays.
+-- `fold::tail` meets its contract. The invariant: what is written so far; what stands before it and after it stays.
 -- Assumes nothing.
 use mathlib.Core.Path.{_≡_, _∙_}
 use mathlib.Core.List.{[], _∷_}
@@ -7,13 +7,13 @@ use native.Mathlib.Omega.{arith}
 use lib.ListN.{length, getD, length-set}
 use Rattle.fold.specs.Folds.{mix}
 use Rattle.fold.proofs.Puts.{put-next}
-use borrow.Author.Needs.{needs, read-below}
+use borrow.Author.Needs.{needs, read-below, read-above}
 use Rattle.fold.proofs.tail.Statement.{statement}
 use Rattle.fold.proofs.tail.Tie as tie
 
 abbrev Inv-loop : tie.InvT-loop
 Inv-loop m n d e f b p w q t₀ s j₀ t j =
-    (j ≤ n) × (length t ≡ length t₀) × ((i : ℕ) → i < s → getD t i 0 ≡ getD t₀ i 0)
+    (j ≤ n) × (length t ≡ length t₀) × ((i : ℕ) → i < s → getD t i 0 ≡ getD t₀ i 0) × ((i : ℕ) → s + j ≤ i → getD t i 0 ≡ getD t₀ i 0)
     × ((k : ℕ) → k < j → getD t (s + k) 0 ≡ mix (d ∷ e ∷ f ∷ []) (getD b (p + m + k) 0) w (q + m + k))
 
 abbrev μ-loop : tie.MeasureT-loop
@@ -58,7 +58,8 @@ loop-again c =
       omega arith,
       length-set (at .t) to v ∙ at .inv .1,
       (λ i h. read-below ℕ (at .t) to i v 0 (getD (a .t .now) i 0) (omega arith) (at .inv .2 i h)),
-      put-next (at .t) (a .s) (at .j) v (λ k. mix (a .d ∷ a .e ∷ a .f ∷ []) (getD (a .b .now) (a .p + a .m + k) 0) (a .w .now) (a .q + a .m + k)) (search needs) (at .inv .3) (c .mixed .ensures),
+      (λ i h. read-above ℕ (at .t) to i v 0 (getD (a .t .now) i 0) (omega arith) (at .inv .3 i (omega arith))),
+      put-next (at .t) (a .s) (at .j) v (λ k. mix (a .d ∷ a .e ∷ a .f ∷ []) (getD (a .b .now) (a .p + a .m + k) 0) (a .w .now) (a .q + a .m + k)) (search needs) (at .inv .4) (c .mixed .ensures),
     )
 
 same-length : tie.Need-same-length Inv-loop μ-loop
@@ -67,7 +68,7 @@ same-length c = search needs
 returns : tie.Need-returns Inv-loop μ-loop
 returns c =
     let at = c .before .loop in
-    record { long = at .inv .1; before = at .inv .2; made = λ k h. at .inv .3 k (omega arith) }
+    record { long = at .inv .1; before = at .inv .2; after = λ j h. at .inv .3 j (omega arith); made = λ k h. at .inv .4 k (omega arith) }
 
 pub tail-spec : {M : Type 1} → statement M
 tail-spec = tie.close (tie.spec Inv-loop μ-loop loop-holds add-mixed add-mixed-2 add-mixed-3 add-mixed-4 mixed-requires add-t slice-write-t add-j loop-less loop-again same-length returns)

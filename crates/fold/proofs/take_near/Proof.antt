@@ -72,7 +72,7 @@ returns c =
         front = λ j h. ap (λ (x : ℕ). getD w x 0) (zero-add j) ∙ at .inv .3 j h;
         back = λ j g h. ap (λ (x : ℕ). getD w x 0) (zero-add j) ∙ at .inv .4 j g;
         made = λ k h. at .inv .5 k (omega arith) ∙ ap (λ (x : ℕ). getD b x 0) (sym (zero-add k))
-            ∙ sym (mix-blank (16 ∷ 11 ∷ 8 ∷ 1 ∷ []) 17 (getD b (0 + k) 0) w (0 + k) (omega arith, (omega arith, (omega arith, (omega arith, tt)))) (λ j l. at .inv .3 j (omega arith)));
+            ∙ sym (mix-blank (16 ∷ 11 ∷ 8 ∷ 1 ∷ []) 17 (getD b (0 + k) 0) w (0 + k) (omega arith, (omega arith, (omega arith, (omega arith, tt)))) (λ d l. at .inv .3 (0 + k + d) (omega arith)));
       },
     )
 

@@ -34,14 +34,14 @@ returns : tie.Need-returns
 returns c =
     let b = c .before .before .before .before .before .before .before .before .before .args .b .now in
     let r = c .before .before .before .before .before .before .take-near in
-    let t = c .before .near-tail .last .1 .1 .0 in
+    let t = c .before .near-tail .last .1 .1 .1 .1 .1 .1 .0 in
     let e = c .before .near-tail .ensures in
-    let long : length t ≡ 40 = e .0 in
+    let long : length t ≡ 40 = e .long in
     let whole : length b ≡ 64 = search needs in
     sym
     (lane-guard (23 ∷ 28 ∷ 31 ∷ 38 ∷ []) (16 ∷ 11 ∷ 8 ∷ 1 ∷ []) 40 24 40 (refl, (refl, (refl, (refl, tt)))) (omega arith, (omega arith, (omega arith, (omega arith, tt)))) near
     [] b 0 (r .last .1 .0) 0 t 0 (r .ensures .1) (omega arith) (omega (arith, r .ensures .0)) (omega (arith, long)) (r .ensures .2)
-    (λ k h. ap (λ (x : ℕ). getD t x 0) (zero-add k) ∙ e .1 k h)
+    (e .made)
     b whole (λ k _. sym (mix-none (16 ∷ 11 ∷ 8 ∷ 1 ∷ []) (getD b (0 + k) 0) k ∙ ap (λ (x : ℕ). getD b x 0) (zero-add k)))
     ∙ ap guard (take-all 40 t (omega (arith, long))))
 

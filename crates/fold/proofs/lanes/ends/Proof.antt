@@ -1,7 +1,7 @@
 -- `fold::lanes::ends` meets its contract. The invariant: the guards of the bytes so far.
 -- Assumes nothing.
 use mathlib.Core.Path.{_≡_, ap, _∙_}
-use Prim.Native.Nat.{ℕ, _-_, _*_, _%_, _≤_}
+use Prim.Native.Nat.{ℕ, _+_, _-_, _*_, _%_, _≤_}
 use native.Mathlib.Omega.{arith}
 use lib.ListN.{length, take, drop}
 use Rattle.crc.specs.Guard.{guard}
@@ -11,10 +11,10 @@ use Rattle.fold.proofs.lanes.ends.Statement.{statement}
 use Rattle.fold.proofs.lanes.ends.Tie as tie
 
 abbrev Inv-loop : tie.InvT-loop
-Inv-loop high low t r₀ i₀ r i = (i ≤ 64) × (i % 2 ≡ 0) × (length r ≡ 8) × Ran t r i
+Inv-loop high low u r₀ i₀ r i = (i ≤ 40) × (i % 2 ≡ 0) × (length r ≡ 8) × Ran u r i
 
 abbrev μ-loop : tie.MeasureT-loop
-μ-loop high low t r₀ i₀ r i = 64 - i
+μ-loop high low u r₀ i₀ r i = 40 - i
 
 loop-holds : tie.Need-loop-holds Inv-loop μ-loop
 loop-holds c = search needs
@@ -38,10 +38,10 @@ same-length c = search needs
 
 returns : tie.Need-returns Inv-loop μ-loop
 returns c =
-    let t = c .before .before .before .before .args .t .now in
+    let u = c .before .before .before .before .args .u .now in
     let at = c .before .loop in
-    let all : at .i ≡ 64 = omega arith in
-    (at .inv .2, (λ l h. at .inv .3 l h ∙ ap (λ (x : ℕ). guard (take x (drop (l * 64) t))) all))
+    let all : at .i ≡ 40 = omega arith in
+    (at .inv .2, (λ l h. at .inv .3 l h ∙ ap (λ (x : ℕ). guard (take x (drop (l * 64 + 24) u))) all))
 
 pub ends-spec : {M : Type 1} → statement M
 ends-spec = tie.close (tie.spec Inv-loop μ-loop loop-holds turn-requires add-i loop-less loop-again same-length returns)

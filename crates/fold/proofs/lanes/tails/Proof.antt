@@ -35,6 +35,9 @@ mul-tail-2 c = search needs
 mul-tail-3 : tie.Need-mul-tail-3 Inv-loop μ-loop
 mul-tail-3 c = search needs
 
+add-tail : tie.Need-add-tail Inv-loop μ-loop
+add-tail c = search needs
+
 tail-requires : tie.Need-tail-requires Inv-loop μ-loop
 tail-requires c κs =
     let at = c .before .before .loop in
@@ -56,8 +59,8 @@ loop-again c =
     let e = c .before .before .tail .ensures in (
       omega arith,
       e .long ∙ at .inv .1,
-      below-more (λ (l : ℕ). (k : ℕ) → k < 64 → getD u (l * 64 + k) 0 ≡ mix (28 ∷ 8 ∷ 1 ∷ []) (getD (a .b .now) (l * a .stride + 448 + k) 0) (a .w .now) (l * 576 + 448 + k)) (at .l)
-          (λ l h k g. e .before (l * 64 + k) (omega arith) ∙ at .inv .2 l h k g) (e .made),
+      below-more (λ (l : ℕ). (k : ℕ) → k < 48 → getD u (l * 64 + 16 + k) 0 ≡ mix (28 ∷ 8 ∷ 1 ∷ []) (getD (a .b .now) (l * a .stride + 464 + k) 0) (a .w .now) (l * 576 + 464 + k)) (at .l)
+          (λ l h k g. e .before (l * 64 + 16 + k) (omega arith) ∙ at .inv .2 l h k g) (e .made),
     )
 
 same-length : tie.Need-same-length Inv-loop μ-loop
@@ -67,4 +70,4 @@ returns : tie.Need-returns Inv-loop μ-loop
 returns c = (c .before .loop .inv .1, (λ l h. c .before .loop .inv .2 l (omega arith)))
 
 pub tails-spec : {M : Type 1} → statement M
-tails-spec = tie.close (tie.spec Inv-loop μ-loop loop-holds mul-tail mul-tail-2 mul-tail-3 tail-requires add-l loop-less loop-again same-length returns)
+tails-spec = tie.close (tie.spec Inv-loop μ-loop loop-holds mul-tail mul-tail-2 mul-tail-3 add-tail tail-requires add-l loop-less loop-again same-length returns)
