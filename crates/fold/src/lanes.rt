@@ -87,7 +87,8 @@ fn rows(b: &[u8], stride: usize, w: &mut [u8])
 fn head(b: &[u8], p: usize, w: &[u8], q: usize, v: &mut [u8], s: usize)
     requires { ⌜ (p + 512 ≤ length (now b)) × (q + 576 ≤ length (now w)) ⌝ }
     requires { ⌜ (s + 104 ≤ length (now v)) × ((j : ℕ) → s ≤ j → getD (now v) j 0 ≡ 0) ⌝ }
-    ensures { λ _. ⌜ (length (now (v .exit)) ≡ length (now (v .entry))) × ((j : ℕ) → j < s → getD (now (v .exit)) j 0 ≡ getD (now (v .entry)) j 0) × Head (now (b .entry)) p (now (w .entry)) q (now (v .exit)) s × ((j : ℕ) → s + 104 ≤ j → getD (now (v .exit)) j 0 ≡ 0) ⌝ }
+    ensures { λ _. ⌜ (length (now (v .exit)) ≡ length (now (v .entry))) × ((j : ℕ) → j < s → getD (now (v .exit)) j 0 ≡ getD (now (v .entry)) j 0) ⌝ }
+    ensures { λ _. ⌜ Head (now (b .entry)) p (now (w .entry)) q (now (v .exit)) s × ((j : ℕ) → s + 104 ≤ j → getD (now (v .exit)) j 0 ≡ 0) ⌝ }
 {
     tail(448, 32, 28, 8, 1, b, p, w, q, v, s + 40);
     let mut j: usize = 0;

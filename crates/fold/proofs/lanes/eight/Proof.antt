@@ -1,8 +1,7 @@
 -- `fold::lanes::eight` meets its contract.
 -- Assumes nothing.
 use mathlib.Core.Path.{ap, _∙_}
-use Prim.Native.Nat.{ℕ, _*_, _+_, _≤_}
-use native.Mathlib.Omega.{arith}
+use Prim.Native.Nat.{ℕ}
 use Rattle.crc.specs.Blocks.{guardsOf}
 use borrow.Author.Needs.{needs}
 use Rattle.fold.proofs.lanes.eight.Statement.{statement}

@@ -1,10 +1,9 @@
 -- `fold::lanes::fold_eight` meets its contract: each lane by itself is folded twice.
 -- Assumes nothing.
 use mathlib.Core.List.{[], _∷_}
-use Prim.Native.Nat.{_+_, _*_, _≤_}
+use Prim.Native.Nat.{_*_, _≤_}
 use native.Mathlib.Nat.{mul-le-mul-right}
 use native.Mathlib.Omega.{arith}
-use lib.ListN.{length}
 use Rattle.fold.proofs.Taken.{zeros-at}
 use Rattle.fold.proofs.Buffers.{lane-any}
 use Rattle.fold.proofs.Nears.{near-guard}

@@ -1,7 +1,6 @@
 -- `fold::lanes::head` meets its contract. The invariant: what is cleared so far; the rest stays as the bytes were written.
 -- Assumes nothing.
 use mathlib.Core.Path.{_≡_, refl, ap, _∙_}
-use mathlib.Core.List.{[], _∷_}
 use Prim.Native.Nat.{ℕ, _+_, _-_, _≤_, _<_}
 use native.Mathlib.Omega.{arith}
 use lib.ListN.{length, getD, length-set}
@@ -74,22 +73,24 @@ same-length c = c .before .loop .inv .1 ∙ c .before .before .before .before .t
 
 returns : tie.Need-returns Inv-loop μ-loop
 returns c =
-    let s = c .before .before .before .before .before .before .before .before .before .args .s in
-    let blank = c .before .before .before .before .before .before .before .before .before .pre .1 .1 in
+    let start = c .before .before .before .before .before .before .before .before .before in
+    let a = start .args in
+    let s = a .s in
+    let blank = start .pre .1 .1 in
     let at = c .before .loop in
     let v = at .v in
-    let made = c .before .before .before .before .tail .ensures in (
-      at .inv .1 ∙ made .long,
-      (λ j h. at .inv .2 j (omega arith) ∙ made .before j (omega arith)),
-      record {
-        front = λ j h. at .inv .2 (s + j) (omega arith) ∙ made .before (s + j) (omega arith) ∙ blank (s + j) (omega arith);
-        made = λ k h. at .inv .2 (s + 40 + k) (omega arith) ∙ made .made k (omega arith);
-        back = λ j g h. either (λ (j : ℕ). 64 ≤ j → getD v (s + j) 0 ≡ 0) 72 j
-            (λ l g. let e : s + j ≡ s + 64 + (j - 64) = omega arith in ap (λ (x : ℕ). getD v x 0) e ∙ at .inv .4 (j - 64) (omega arith))
-            (λ l g. at .inv .3 (s + j) (omega arith) ∙ made .after (s + j) (omega arith) ∙ blank (s + j) (omega arith))
-            g;
-      },
-      (λ j h. at .inv .3 j (omega arith) ∙ made .after j (omega arith) ∙ blank j (omega arith)),
+    let made = c .before .before .before .before .tail .ensures in
+    let head : Head (a .b .now) (a .p) (a .w .now) (a .q) v s =
+    record {
+      front = λ j h. at .inv .2 (s + j) (omega arith) ∙ made .before (s + j) (omega arith) ∙ blank (s + j) (omega arith);
+      made = λ k h. at .inv .2 (s + 40 + k) (omega arith) ∙ made .made k (omega arith);
+      back = λ j g h. either (λ (j : ℕ). 64 ≤ j → getD v (s + j) 0 ≡ 0) 72 j
+          (λ l g. let e : s + j ≡ s + 64 + (j - 64) = omega arith in ap (λ (x : ℕ). getD v x 0) e ∙ at .inv .4 (j - 64) (omega arith))
+          (λ l g. at .inv .3 (s + j) (omega arith) ∙ made .after (s + j) (omega arith) ∙ blank (s + j) (omega arith))
+          g;
+    } in (
+      (at .inv .1 ∙ made .long, (λ j h. at .inv .2 j (omega arith) ∙ made .before j (omega arith))),
+      (head, (λ j h. at .inv .3 j (omega arith) ∙ made .after j (omega arith) ∙ blank j (omega arith))),
     )
 
 pub head-spec : {M : Type 1} → statement M

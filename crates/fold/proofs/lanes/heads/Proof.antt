@@ -1,7 +1,7 @@
 -- `fold::lanes::heads` meets its contract. The invariant: the heads of the lanes before, and zeros from there on.
 -- Assumes nothing.
 use mathlib.Core.Path.{_≡_, _∙_}
-use Prim.Native.Nat.{ℕ, _+_, _-_, _*_, _≤_, _<_}
+use Prim.Native.Nat.{ℕ, _-_, _*_, _≤_}
 use native.Mathlib.Nat.{mul-le-mul-right}
 use native.Mathlib.Omega.{arith}
 use lib.ListN.{length, getD}
@@ -57,11 +57,11 @@ loop-again c =
     let u = c .before .before .head .last .1 .1 .1 .1 .0 in
     let e = c .before .before .head .ensures in (
       omega arith,
-      e .0 ∙ at .inv .1,
+      e .0 .0 ∙ at .inv .1,
       (λ k. omega (arith, c .slice-known2 .given k)),
       below-more (λ (l : ℕ). Head (a .b .now) (l * a .stride) (a .w .now) (l * 576) u (l * 104)) (at .l)
-          (λ l h. head-same (a .b .now) (l * a .stride) (a .w .now) (l * 576) (at .v) (l * 104) u (λ j g. e .1 j (omega arith)) (at .inv .3 l h)) (e .2),
-      (λ j h. e .3 j (omega arith)),
+          (λ l h. head-same (a .b .now) (l * a .stride) (a .w .now) (l * 576) (at .v) (l * 104) u (λ j g. e .0 .1 j (omega arith)) (at .inv .3 l h)) (e .1 .0),
+      (λ j h. e .1 .1 j (omega arith)),
     )
 
 same-length : tie.Need-same-length Inv-loop μ-loop
