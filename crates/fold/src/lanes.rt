@@ -180,7 +180,7 @@ fn ends(high: &[u16; 256], low: &[u16; 256], u: &[u8], r: &mut [u16])
     ensures { λ _. ⌜ (length (now (r .exit)) ≡ 8) × Ran (now (u .entry)) (now (r .exit)) 40 ⌝ }
 {
     let mut i: usize = 0;
-    while i < 39 {
+    while i < 40 {
         turn(high, low, u, i, r);
         i += 2;
     }
