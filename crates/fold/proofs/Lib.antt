@@ -1,5 +1,5 @@
-pub mod Strides
 pub mod Taken
+pub mod Strides
 pub mod Buffers
 pub mod Multiples
 pub mod Nears

@@ -2,16 +2,21 @@
 -- Assumes nothing.
 use mathlib.Core.Path.{_≡_, refl, sym, ap, ap₂, _∙_}
 use mathlib.Core.List.{List, [], _∷_, _++_, append-nil, append-assoc}
+use mathlib.Core.Bool.{Bool, true, false, cond, _&&_}
 use Prim.Native.Nat.{ℕ, zero, suc, _+_, _-_, _*_, _≤_, _<_, min}
-use native.Mathlib.Nat.{le-refl, zero-add, suc-add, zero-mul, suc-mul, le-of-suc-le-suc, not-suc-le-zero}
+use native.Mathlib.Nat.{le-refl, zero-add, add-comm, add-mul, zero-mul, suc-mul, le-of-suc-le-suc, not-suc-le-zero}
 use native.Mathlib.Numerals.{add-one, add-two}
 use native.Mathlib.Decide.{decLe}
 use native.Mathlib.Omega.{arith}
-use lib.ListN.{length, getD, take, drop, set, drop-of-length-le, length-drop, length-append}
-use lib.Seq.{ext-getD, length-take-le, take-all, take-at, drop-at, take-suc, take-suc-set, drop-cons, drop-drop, getD-drop, append-snoc}
+use lib.ListN.{length, getD, take, drop, set, drop-of-length-le, length-drop, length-append, List·getD-append}
+use lib.Dec.{leb}
+use lib.Seq.{ext-getD, length-take-le, take-all, take-suc, take-suc-set, drop-cons, drop-drop, getD-take, getD-drop, getD-append-add, append-snoc}
+use borrow.Author.Tests.{leb-true}
 use Rattle.crc.specs.Guard.{run, guard}
 use Rattle.crc.specs.Blocks.{guardsOf}
 use Rattle.crc.proofs.Joined.{run-joined}
+use Rattle.fold.specs.Eights.{secondOf, Known}
+use Rattle.fold.proofs.Taken.{either}
 
 -- nothing is left at the end, and none past it
 pub drop-further : (bytes : List ℕ) (n : ℕ) → drop (min n (length bytes)) bytes ≡ drop n bytes
@@ -50,7 +55,7 @@ take-least bytes n = go (decLe n (length bytes))
     go (yes l) = let e : min n (length bytes) - 0 ≡ n = omega arith in ap (λ (k : ℕ). take k bytes) e
     go (no l) = take-all (min n (length bytes) - 0) bytes (omega arith) ∙ sym (take-all n bytes (omega arith))
 
--- the guards as a list: how many, which, and in two parts
+-- the guards as a list: how many, and which
 pub length-guardsOf : (n stride : ℕ) (bytes : List ℕ) → length (guardsOf n stride bytes) ≡ n
 unfolding guardsOf
 length-guardsOf zero stride bytes = refl
@@ -65,17 +70,7 @@ guardsOf-at (suc n) stride bytes (suc l) h =
     guardsOf-at n stride (drop stride bytes) l (le-of-suc-le-suc h)
     ∙ ap (λ (x : List ℕ). guard (take 512 x)) (drop-drop (l * stride) stride bytes ∙ ap (λ (k : ℕ). drop k bytes) next)
 
-pub guardsOf-parts : (m n stride : ℕ) (bytes : List ℕ) → guardsOf (m + n) stride bytes ≡ guardsOf m stride bytes ++ guardsOf n stride (drop (m * stride) bytes)
-unfolding guardsOf
-guardsOf-parts zero n stride bytes = ap₂ (λ (k j : ℕ). guardsOf k stride (drop j bytes)) (zero-add n) (sym (zero-mul stride))
-guardsOf-parts (suc m) n stride bytes =
-    let next : stride + m * stride ≡ suc m * stride = omega (arith, suc-mul m stride) in
-    ap (λ (k : ℕ). guardsOf k stride bytes) (suc-add m n)
-    ∙ ap (λ (x : List ℕ). guard (take 512 bytes) ∷ x)
-    (guardsOf-parts m n stride (drop stride bytes)
-    ∙ ap (λ (x : List ℕ). guardsOf m stride (drop stride bytes) ++ guardsOf n stride x) (drop-drop (m * stride) stride bytes ∙ ap (λ (k : ℕ). drop k bytes) next))
-
--- eight numbers that are the guards of eight runs, each by itself
+-- n numbers that are the guards of n runs, each by itself
 pub guardsOf-each : (r : List ℕ) (n stride : ℕ) (bytes : List ℕ) → length r ≡ n → ((l : ℕ) → l < n → getD r l 0 ≡ guard (take 512 (drop (l * stride) bytes)))
     → r ≡ guardsOf n stride bytes
 guardsOf-each r n stride bytes e h =
@@ -112,15 +107,54 @@ copy-turn out from i h l = rw (add-one, take-suc-set, drop-cons from i 0) (appen
 pub copy-end : (out from : List ℕ) (i : ℕ) → length out ≤ i → length from ≤ i → take i out ++ drop i from ≡ out
 copy-end out from i h l = rw (take-all i out h, drop-of-length-le from l) (append-nil out)
 
--- two halves, the first stored and then the second
-module _ (n : ℕ) (zs a : List ℕ) (hz : length zs ≡ n) (ha : length a ≡ n) where
-  pub halves-long : n + n ≤ length (a ++ zs)
-  halves-long = omega (arith, length-append a zs)
+-- the bytes from run k on
+pub from-run : (bytes : List ℕ) (k stride n : ℕ) → n ≡ min (k * stride) (length bytes) → take (length bytes - n) (drop n bytes) ≡ drop (k * stride) bytes
+from-run bytes k stride n e =
+    take-all (length bytes - n) (drop n bytes) (rw (length-drop n bytes) (le-refl (length bytes - n))) ∙ ap (λ (x : ℕ). drop x bytes) e ∙ drop-further bytes (k * stride)
 
-  pub second-long : length (take n (drop n (a ++ zs))) ≡ n
-  second-long = ap (λ (x : List ℕ). length (take n x)) (drop-at a zs n ha) ∙ length-take-le n zs (omega arith)
+-- n numbers stored from the k-th on
+pub part-long : (xs : List ℕ) (k n m : ℕ) → k + n ≤ length xs → m ≡ n → length (take m (drop k xs)) ≡ n
+part-long xs k n m h e = length-take-le m (drop k xs) (rw (length-drop k xs) (omega arith)) ∙ e
 
-  pub halves : (b : List ℕ) → take n (a ++ zs) ++ (b ++ drop n (drop n (a ++ zs))) ≡ a ++ b
-  halves b =
-      let none : length zs ≤ n = omega arith in
-      ap₂ (λ (x y : List ℕ). x ++ (b ++ y)) (take-at a zs n ha) (ap (drop n) (drop-at a zs n ha) ∙ drop-of-length-le zs none) ∙ ap (λ (x : List ℕ). a ++ x) (append-nil b)
+pub length-part : (xs ys : List ℕ) (k n m : ℕ) → k + n ≤ length xs → length ys ≡ n → m ≡ n → length (take k xs ++ (ys ++ drop m (drop k xs))) ≡ length xs
+length-part xs ys k n m h e f =
+    length-append (take k xs) (ys ++ drop m (drop k xs))
+    ∙ ap₂ (λ (x y : ℕ). x + y) (length-take-le k xs (omega arith)) (length-append ys (drop m (drop k xs)) ∙ ap₂ (λ (x y : ℕ). x + y) e (length-drop m (drop k xs) ∙ ap (λ (x : ℕ). x - m) (length-drop k xs)))
+    ∙ omega arith
+
+pub known-part : (xs ys : List ℕ) (k n m stride : ℕ) (bytes : List ℕ) → k + n ≤ length xs → Known stride bytes xs k → ys ≡ guardsOf n stride (drop (k * stride) bytes)
+    → Known stride bytes (take k xs ++ (ys ++ drop m (drop k xs))) (k + n)
+known-part xs ys k n m stride bytes h old new l g =
+    either (λ (l : ℕ). l < k + n → getD found l 0 ≡ guard (take 512 (drop (l * stride) bytes))) k l before within g
+  where
+    found : List ℕ
+    found = take k xs ++ (ys ++ drop m (drop k xs))
+
+    more : (j : ℕ) → k * stride + j * stride ≡ (j + k) * stride
+    more j = add-comm (k * stride) (j * stride) ∙ sym (add-mul j k stride)
+
+    long : length (take k xs) ≡ k
+    long = length-take-le k xs (omega arith)
+
+    before : {l : ℕ} → l < k → l < k + n → getD found l 0 ≡ guard (take 512 (drop (l * stride) bytes))
+    before {l} b _ = List·getD-append (take k xs) (ys ++ drop m (drop k xs)) 0 l (rw long b) ∙ getD-take k xs l 0 b ∙ old l b
+
+    within : {l : ℕ} → k ≤ l → l < k + n → getD found l 0 ≡ guard (take 512 (drop (l * stride) bytes))
+    within {l} b g =
+        let j = l - k in
+        let at : l ≡ length (take k xs) + j = omega (arith, long) in
+        let all : j + k ≡ l = omega arith in
+        let few : j < length ys = rw (new, length-guardsOf n stride (drop (k * stride) bytes)) (omega arith) in
+        ap (λ (x : ℕ). getD found x 0) at ∙ getD-append-add (take k xs) (ys ++ drop m (drop k xs)) j 0 ∙ List·getD-append ys (drop m (drop k xs)) 0 j few
+        ∙ ap (λ (x : List ℕ). getD x j 0) new ∙ guardsOf-at n stride (drop (k * stride) bytes) j (omega arith)
+        ∙ ap (λ (x : List ℕ). guard (take 512 x)) (drop-drop (j * stride) (k * stride) bytes ∙ ap (λ (x : ℕ). drop x bytes) (more j ∙ ap (λ (x : ℕ). x * stride) all))
+
+-- the second eight begin with the ninth run or an earlier one
+pub second-most : (runs : ℕ) → secondOf runs ≤ 8
+unfolding secondOf
+second-most runs = go (leb 11 runs) (leb runs 15) refl refl
+  where
+    go : (a b : Bool) → leb 11 runs ≡ a → leb runs 15 ≡ b → cond (a && b) (runs - 8) 8 ≤ 8
+    go true true e f = let few = leb-true runs 15 f in omega arith
+    go true false e f = omega arith
+    go false b e f = omega arith

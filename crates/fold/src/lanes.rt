@@ -7,7 +7,7 @@ ghost use Rattle.crc.specs.Guard.{guard};
 ghost use Rattle.table.specs.Tables.{lows, highs};
 ghost use Rattle.crc.specs.Blocks.{guardsOf};
 ghost use Rattle.fold.specs.Folds.{Blank};
-ghost use Rattle.fold.specs.Eights.{Lanes, Ready, Head, Heads, Tails, Nears, Folded, Ran};
+ghost use Rattle.fold.specs.Eights.{secondOf, Known, Lanes, Ready, Head, Heads, Tails, Nears, Folded, Ran};
 use crate::by_folds;
 use crate::chunk;
 use crate::near_tail;
@@ -23,11 +23,27 @@ fn further(at: usize, stride: usize, end: usize) -> usize
     if stride < end - at { at + stride } else { end }
 }
 
-// Where the ninth run begins: eight strides on, and not past the end.
-fn ninth(stride: usize, end: usize) -> usize
-    ensures { λ r. ⌜ r ≡ min (8 * stride) end ⌝ }
+// Where run k begins: k strides on, and not past the end.
+fn begin(k: usize, stride: usize, end: usize) -> usize
+    ensures { λ r. ⌜ r ≡ min (k * stride) end ⌝ }
 {
-    if stride <= end / 8 { 8 * stride } else { end }
+    if k == 0 {
+        return 0;
+    }
+    if stride <= end / k { k * stride } else { end }
+}
+
+// Which run the second eight begin with. Any up to 8 gives the same guards, and this one the fewest singly, but for one or two, which are
+// no slower so.
+fn second(runs: usize) -> usize
+    ensures { λ r. ⌜ r ≡ secondOf runs ⌝ }
+{
+    if 11 <= runs {
+        if runs <= 15 {
+            return runs - 8;
+        }
+    }
+    8
 }
 
 // The guard of the first 512 bytes, or of all where there are fewer.
@@ -238,17 +254,58 @@ fn eight(
     singly(high, low, bytes, stride, out);
 }
 
-// The guards of eight runs, and of eight more.
-fn sixteen(high: &[u16; 256], low: &[u16; 256], bytes: &[u8], stride: usize) -> [u16; 16]
+// The guards of eight runs from run k on, put to those of the runs before.
+fn eight_from(
+    high: &[u16; 256],
+    low: &[u16; 256],
+    bytes: &[u8],
+    stride: usize,
+    k: usize,
+    w: &mut [u8],
+    found: &mut [u16],
+)
     requires { ⌜ now high ≡ highs ⌝ }
     requires { ⌜ now low ≡ lows ⌝ }
+    requires { ⌜ (length (now w) ≡ 4608) × Ready (now w) ⌝ }
+    requires { ⌜ (length (now found) ≡ 16) × (k ≤ 8) × Known stride (now bytes) (now found) k ⌝ }
+    ensures { λ _. ⌜ (length (now (w .exit)) ≡ 4608) × Ready (now (w .exit)) ⌝ }
+    ensures { λ _. ⌜ (length (now (found .exit)) ≡ 16) × Known stride (now (bytes .entry)) (now (found .exit)) (k + 8) ⌝ }
+{
+    let from = begin(k, stride, bytes.len());
+    let end = k + 8;
+    eight(high, low, &bytes[from..], stride, w, &mut found[k..end]);
+}
+
+// The guards of all runs from run k on, put to those of the runs before.
+fn rest_from(
+    high: &[u16; 256],
+    low: &[u16; 256],
+    bytes: &[u8],
+    stride: usize,
+    k: usize,
+    found: &mut [u16],
+)
+    requires { ⌜ now high ≡ highs ⌝ }
+    requires { ⌜ now low ≡ lows ⌝ }
+    requires { ⌜ (length (now found) ≡ 16) × (k ≤ 16) × Known stride (now bytes) (now found) k ⌝ }
+    ensures { λ _. ⌜ now (found .exit) ≡ guardsOf 16 stride (now (bytes .entry)) ⌝ }
+{
+    let from = begin(k, stride, bytes.len());
+    singly(high, low, &bytes[from..], stride, &mut found[k..]);
+}
+
+// The guards of eight runs, of eight more, which may be some of the first again, and of the rest.
+fn sixteen(high: &[u16; 256], low: &[u16; 256], bytes: &[u8], stride: usize, k: usize) -> [u16; 16]
+    requires { ⌜ now high ≡ highs ⌝ }
+    requires { ⌜ now low ≡ lows ⌝ }
+    requires { ⌜ k ≤ 8 ⌝ }
     ensures { λ r. ⌜ r ≡ guardsOf 16 stride (now (bytes .entry)) ⌝ }
 {
     let mut found = [0u16; 16];
     let mut w = [0u8; 4608];
-    let from = ninth(stride, bytes.len());
-    eight(high, low, bytes, stride, &mut w, &mut found[0..8]);
-    eight(high, low, &bytes[from..], stride, &mut w, &mut found[8..16]);
+    eight_from(high, low, bytes, stride, 0, &mut w, &mut found);
+    eight_from(high, low, bytes, stride, k, &mut w, &mut found);
+    rest_from(high, low, bytes, stride, k + 8, &mut found);
     found
 }
 
@@ -258,5 +315,10 @@ pub fn guards(bytes: &[u8], stride: usize) -> [u16; 16]
 {
     let high = table::high_table();
     let low = table::low_table();
-    sixteen(&high, &low, bytes, stride)
+    let runs = if stride == 0 {
+        16
+    } else {
+        bytes.len() / stride
+    };
+    sixteen(&high, &low, bytes, stride, second(runs))
 }
