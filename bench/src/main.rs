@@ -69,27 +69,35 @@ fn jobs() {
         "× memcpy",
     ]);
     let mut ground = Ground::new();
-    for row in ROWS {
-        for source in row.sources {
-            let times = ground.best(row, *source);
-            let from = match source {
-                Source::Cache => String::from("L1"),
-                Source::Memory => format!("{} MiB", Ground::mebibytes()),
-            };
-            let megabytes = times[IRUMBOLAI].map(|time| row.bytes as f64 * 1e3 / time);
-            let words = [row.name.to_string(), from, row.unit.to_string()];
-            let cells = words.into_iter().chain(times.map(known));
-            table.row(
-                cells
-                    .chain([known(megabytes)])
-                    .chain(rates(&times))
-                    .collect(),
-            );
+    let mut all: Vec<_> = ROWS
+        .iter()
+        .flat_map(|row| row.sources.iter().map(move |source| (row, *source)))
+        .map(|(row, source)| (row, source, [None; CONTESTANTS]))
+        .collect();
+    for _ in 0..timing::PASSES {
+        for (row, source, best) in &mut all {
+            ground.turns(row, *source, best);
         }
     }
+    for (row, source, times) in all {
+        let from = match source {
+            Source::Cache => String::from("L1"),
+            Source::Memory => format!("{} MiB", Ground::mebibytes()),
+        };
+        let megabytes = times[IRUMBOLAI].map(|time| row.bytes as f64 * 1e3 / time);
+        let words = [row.name.to_string(), from, row.unit.to_string()];
+        let cells = words.into_iter().chain(times.map(known));
+        table.row(
+            cells
+                .chain([known(megabytes)])
+                .chain(rates(&times))
+                .collect(),
+        );
+    }
     println!(
-        "Best of {} rounds, the contestants in turn:",
-        timing::ROUNDS
+        "Best of {} rounds, the contestants in turn, in {} passes over all rows:",
+        timing::ROUNDS,
+        timing::PASSES
     );
     println!();
     table.print(3);

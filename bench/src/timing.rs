@@ -7,8 +7,14 @@ use crate::stripes::{MEMBERS, STRIPE, damage, seal};
 use std::hint::black_box;
 use std::time::{Duration, Instant};
 
-/// How many turns each contestant has.
-pub const ROUNDS: usize = 200;
+/// So often all rows are gone through, so that what disturbs the machine for a second meets no row alone.
+pub const PASSES: usize = 20;
+
+/// How many turns each contestant has at a row in a pass.
+const TURNS: usize = 10;
+
+/// How many turns each contestant has at a row in all.
+pub const ROUNDS: usize = PASSES * TURNS;
 
 /// On how many stripes, most of them damaged, the answers are compared.
 const CASES: usize = 300;
@@ -62,11 +68,10 @@ impl Ground {
         ((SEGMENT * SEGMENTS * STRIPE) as f64 / (1 << 20) as f64).round()
     }
 
-    /// The best time of each contestant for one unit, in nanoseconds; none of one that is not here.
-    pub fn best(&mut self, row: &Row, source: Source) -> [Option<f64>; CONTESTANTS] {
-        let mut best = [None; CONTESTANTS];
+    /// The turns of a pass at a row. Keeps the best time of each contestant for one unit, in nanoseconds; none of one that is not here.
+    pub fn turns(&mut self, row: &Row, source: Source, best: &mut [Option<f64>; CONTESTANTS]) {
         let mut room = Room::new();
-        for _ in 0..ROUNDS {
+        for _ in 0..TURNS {
             for (who, job) in row.jobs.iter().enumerate().filter(|(who, _)| is_here(*who)) {
                 let (from, first, stripes, repeats) = match source {
                     Source::Cache => (&mut self.one, 0, 1, REPEATS),
@@ -86,7 +91,6 @@ impl Ground {
                 keep(&mut best[who], nanoseconds(start.elapsed()) / units as f64);
             }
         }
-        best
     }
 }
 
