@@ -15,7 +15,7 @@ use borrow.Author.Tests.{leb-true}
 use Rattle.crc.specs.Guard.{run, guard}
 use Rattle.crc.specs.Blocks.{guardsOf}
 use Rattle.crc.proofs.Joined.{run-joined}
-use Rattle.fold.specs.Eights.{secondOf, Known}
+use Rattle.fold.specs.Many.{secondOf, Known}
 use Rattle.fold.proofs.Taken.{either}
 
 -- nothing is left at the end, and none past it

@@ -2,20 +2,10 @@
 -- a byte of the 64 keeps its place among them throughout. Assumes nothing.
 use mathlib.Core.Path.{_≡_}
 use mathlib.Core.List.{List, [], _∷_}
-use mathlib.Core.Bool.{cond, _&&_}
-use Prim.Native.Nat.{ℕ, _+_, _-_, _*_, _≤_, _<_}
+use Prim.Native.Nat.{ℕ, _+_, _*_, _≤_, _<_}
 use lib.ListN.{getD, take, drop}
-use lib.Dec.{leb}
 use Rattle.crc.specs.Guard.{guard}
 use Rattle.fold.specs.Folds.{mix, Lane}
-
--- which run the second eight of sixteen begin with: the ninth, but the last eight go together where there are 11 to 15
-unfoldable pub secondOf : ℕ → ℕ
-secondOf runs = cond (leb 11 runs && leb runs 15) (runs - 8) 8
-
--- the first n numbers of r are the guards of the first n runs, a stride apart
-abbrev pub Known : ℕ → List ℕ → List ℕ → ℕ → Type 0
-Known stride b r n = (l : ℕ) → l < n → getD r l 0 ≡ guard (take 512 (drop (l * stride) b))
 
 -- i bytes of each of eight blocks are taken away; the blocks lie a stride apart, their lanes in w 576 bytes
 abbrev pub Lanes : ℕ → List ℕ → List ℕ → ℕ → Type 0

@@ -1,7 +1,8 @@
 // Guards fast: a run by two tables, two bytes at a time; a block of 512 bytes by three folds and then the tables.
 mod lanes;
+mod many;
 
-pub use lanes::guards;
+pub use many::guards;
 ghost use mathlib.Core.Path.{_≡_};
 ghost use mathlib.Core.List.{[], _∷_};
 ghost use Prim.Native.Nat.{ℕ, _+_, _≤_, _<_};
