@@ -1,4 +1,7 @@
 // Eight blocks side by side: their folds and their ways through the tables do not wait for one another.
+mod many;
+
+pub use many::guards;
 ghost use mathlib.Core.Path.{_≡_};
 ghost use Prim.Native.Nat.{ℕ, _+_, _*_, _≤_, _<_};
 ghost use lib.ListN.{length, getD};
@@ -144,13 +147,7 @@ fn ends(high: &[u16; 256], low: &[u16; 256], u: &[u8], r: &mut [u16])
 }
 
 // The guards of eight runs of 512 bytes, side by side.
-pub fn beside(
-    high: &[u16; 256],
-    low: &[u16; 256],
-    b: &[u8],
-    stride: usize,
-    w: &mut [u8],
-) -> [u16; 8]
+fn beside(high: &[u16; 256], low: &[u16; 256], b: &[u8], stride: usize, w: &mut [u8]) -> [u16; 8]
     requires { ⌜ now high ≡ highs ⌝ }
     requires { ⌜ now low ≡ lows ⌝ }
     requires { ⌜ 7 * stride + 512 ≤ length (now b) ⌝ }

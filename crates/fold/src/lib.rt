@@ -1,8 +1,7 @@
 // Guards fast: a run by two tables, two bytes at a time; a block of 512 bytes by three folds and then the tables.
 mod lanes;
-mod many;
 
-pub use many::guards;
+pub use lanes::guards;
 ghost use mathlib.Core.Path.{_≡_};
 ghost use mathlib.Core.List.{[], _∷_};
 ghost use Prim.Native.Nat.{ℕ, _+_, _≤_, _<_};

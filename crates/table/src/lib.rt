@@ -1,8 +1,9 @@
 // Two bytes at a time through two tables of 256 entries. The tables are lent, so that a caller makes them once; what is promised holds of any two.
-mod tables;
+mod high;
+mod low;
 
-pub use tables::high_table;
-pub use tables::low_table;
+pub use high::high_table;
+pub use low::low_table;
 ghost use mathlib.Core.Path.{_≡_};
 ghost use lib.ListN.{getD};
 ghost use Rattle.table.specs.Tables.{lookOne, lookTwo, lookRun};

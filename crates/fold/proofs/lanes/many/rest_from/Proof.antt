@@ -1,4 +1,4 @@
--- `fold::many::rest_from` meets its contract.
+-- `fold::lanes::many::rest_from` meets its contract.
 -- Assumes nothing.
 use mathlib.Core.Path.{_≡_, refl, ap, ap₂, _∙_}
 use mathlib.Core.List.{List, _++_}
@@ -8,8 +8,8 @@ use lib.ListN.{length, take, drop}
 use Rattle.crc.specs.Blocks.{guardsOf}
 use Rattle.fold.proofs.Strides.{length-guardsOf, guardsOf-each, from-run, part-long, length-part, known-part}
 use borrow.Author.Needs.{needs}
-use Rattle.fold.proofs.many.rest_from.Statement.{statement}
-use Rattle.fold.proofs.many.rest_from.Tie as tie
+use Rattle.fold.proofs.lanes.many.rest_from.Statement.{statement}
+use Rattle.fold.proofs.lanes.many.rest_from.Tie as tie
 
 begin-requires : tie.Need-begin-requires
 begin-requires c κs = search needs

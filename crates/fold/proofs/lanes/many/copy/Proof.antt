@@ -1,4 +1,4 @@
--- `fold::many::copy` meets its contract. The invariant: what is stored, and what is still to come, are all.
+-- `fold::lanes::many::copy` meets its contract. The invariant: what is stored, and what is still to come, are all.
 -- Assumes nothing.
 use mathlib.Core.Path.{_≡_, sym, _∙_}
 use mathlib.Core.List.{_++_}
@@ -7,8 +7,8 @@ use native.Mathlib.Omega.{arith}
 use lib.ListN.{length, take, drop, getD, length-set}
 use Rattle.fold.proofs.Strides.{copy-turn, copy-end}
 use borrow.Author.Needs.{needs}
-use Rattle.fold.proofs.many.copy.Statement.{statement}
-use Rattle.fold.proofs.many.copy.Tie as tie
+use Rattle.fold.proofs.lanes.many.copy.Statement.{statement}
+use Rattle.fold.proofs.lanes.many.copy.Tie as tie
 
 abbrev Inv-loop : tie.InvT-loop
 Inv-loop out₀ from i₀ out i = (i ≤ 8) × (length out ≡ 8) × (take i out ++ drop i from ≡ from)

@@ -1,4 +1,4 @@
--- `fold::many::singly` meets its contract. The invariant: the guards found, and those of the runs still to come, are all.
+-- `fold::lanes::many::singly` meets its contract. The invariant: the guards found, and those of the runs still to come, are all.
 -- Assumes nothing.
 use mathlib.Core.Path.{_≡_, refl, sym, ap, ap₂, _∙_}
 use mathlib.Core.List.{List, _++_}
@@ -11,8 +11,8 @@ use Rattle.crc.specs.Guard.{guard}
 use Rattle.crc.specs.Blocks.{guardsOf}
 use Rattle.fold.proofs.Strides.{singly-turn, singly-end}
 use borrow.Author.Needs.{needs}
-use Rattle.fold.proofs.many.singly.Statement.{statement}
-use Rattle.fold.proofs.many.singly.Tie as tie
+use Rattle.fold.proofs.lanes.many.singly.Statement.{statement}
+use Rattle.fold.proofs.lanes.many.singly.Tie as tie
 
 abbrev Inv-loop : tie.InvT-loop
 Inv-loop high low bytes stride out₀ at₀ m₀ out at m =

@@ -1,11 +1,11 @@
--- `table::tables::high_table` meets its contract: the table is computed from its rule, and is the one in the source.
+-- `table::high::high_table` meets its contract: the table is computed from its rule, and is the one in the source.
 -- Assumes nothing.
 use mathlib.Core.Path.{refl}
 use Rattle.crc.specs.Crc.{feed, bitsOf, bits, bitStep}
 use Rattle.crc.specs.Guard.{run, guard}
 use Rattle.table.specs.Tables.{highs}
-use Rattle.table.proofs.tables.high_table.Statement.{statement}
-use Rattle.table.proofs.tables.high_table.Tie as tie
+use Rattle.table.proofs.high.high_table.Statement.{statement}
+use Rattle.table.proofs.high.high_table.Tie as tie
 
 returns : tie.Need-returns
 unfolding highs guard run feed bitsOf bits bitStep

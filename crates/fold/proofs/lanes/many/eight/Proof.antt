@@ -1,11 +1,11 @@
--- `fold::many::eight` meets its contract.
+-- `fold::lanes::many::eight` meets its contract.
 -- Assumes nothing.
 use mathlib.Core.Path.{ap, _∙_}
 use Prim.Native.Nat.{ℕ}
 use Rattle.crc.specs.Blocks.{guardsOf}
 use borrow.Author.Needs.{needs}
-use Rattle.fold.proofs.many.eight.Statement.{statement}
-use Rattle.fold.proofs.many.eight.Tie as tie
+use Rattle.fold.proofs.lanes.many.eight.Statement.{statement}
+use Rattle.fold.proofs.lanes.many.eight.Tie as tie
 
 sub-if2 : tie.Need-sub-if2
 sub-if2 c = search needs

@@ -1,4 +1,4 @@
--- `fold::many::guard_of_first` meets its contract.
+-- `fold::lanes::many::guard_of_first` meets its contract.
 -- Assumes nothing.
 use mathlib.Core.Path.{ap, _∙_}
 use Prim.Native.Nat.{ℕ, _-_}
@@ -6,8 +6,8 @@ use lib.ListN.{take}
 use Rattle.crc.specs.Guard.{run, guard}
 use Rattle.fold.proofs.Strides.{take-least}
 use borrow.Author.Needs.{needs}
-use Rattle.fold.proofs.many.guard_of_first.Statement.{statement}
-use Rattle.fold.proofs.many.guard_of_first.Tie as tie
+use Rattle.fold.proofs.lanes.many.guard_of_first.Statement.{statement}
+use Rattle.fold.proofs.lanes.many.guard_of_first.Tie as tie
 
 least-requires : tie.Need-least-requires
 least-requires c κs = search needs

@@ -1,12 +1,12 @@
--- `fold::many::begin` meets its contract: a product that may not fit is not made where it lies past the end.
+-- `fold::lanes::many::begin` meets its contract: a product that may not fit is not made where it lies past the end.
 -- Assumes nothing.
 use mathlib.Core.Path.{_≡_, ap, _∙_}
 use Prim.Native.Nat.{ℕ, _*_, _/_, _≤_, _<_}
 use native.Mathlib.Nat.{zero-mul, mul-comm, le-div-iff-mul-le, div-lt-iff-lt-mul}
 use native.Mathlib.Omega.{arith}
 use borrow.Author.Needs.{needs}
-use Rattle.fold.proofs.many.begin.Statement.{statement}
-use Rattle.fold.proofs.many.begin.Tie as tie
+use Rattle.fold.proofs.lanes.many.begin.Statement.{statement}
+use Rattle.fold.proofs.lanes.many.begin.Tie as tie
 
 -- k strides are not past the end, or are
 not-past : (k stride end : ℕ) → 0 < k → stride ≤ end / k → k * stride ≤ end

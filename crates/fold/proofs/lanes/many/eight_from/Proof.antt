@@ -1,4 +1,4 @@
--- `fold::many::eight_from` meets its contract.
+-- `fold::lanes::many::eight_from` meets its contract.
 -- Assumes nothing.
 use mathlib.Core.Path.{_≡_, ap, _∙_}
 use Prim.Native.Nat.{_+_, _-_, _*_, _≤_}
@@ -7,8 +7,8 @@ use lib.ListN.{length, drop}
 use Rattle.crc.specs.Blocks.{guardsOf}
 use Rattle.fold.proofs.Strides.{length-guardsOf, from-run, part-long, length-part, known-part}
 use borrow.Author.Needs.{needs}
-use Rattle.fold.proofs.many.eight_from.Statement.{statement}
-use Rattle.fold.proofs.many.eight_from.Tie as tie
+use Rattle.fold.proofs.lanes.many.eight_from.Statement.{statement}
+use Rattle.fold.proofs.lanes.many.eight_from.Tie as tie
 
 begin-requires : tie.Need-begin-requires
 begin-requires c κs = search needs

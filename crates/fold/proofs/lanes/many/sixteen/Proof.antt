@@ -1,4 +1,4 @@
--- `fold::many::sixteen` meets its contract: the guards that are known grow with each step.
+-- `fold::lanes::many::sixteen` meets its contract: the guards that are known grow with each step.
 -- Assumes nothing.
 use mathlib.Core.Path.{refl}
 use mathlib.Core.List.{[], _∷_}
@@ -6,8 +6,8 @@ use Prim.Native.Nat.{_*_}
 use native.Mathlib.Omega.{arith}
 use Rattle.fold.proofs.Buffers.{lane-start}
 use borrow.Author.Needs.{needs}
-use Rattle.fold.proofs.many.sixteen.Statement.{statement}
-use Rattle.fold.proofs.many.sixteen.Tie as tie
+use Rattle.fold.proofs.lanes.many.sixteen.Statement.{statement}
+use Rattle.fold.proofs.lanes.many.sixteen.Tie as tie
 
 slice-aggregate-eight-from : tie.Need-slice-aggregate-eight-from
 slice-aggregate-eight-from c = search needs

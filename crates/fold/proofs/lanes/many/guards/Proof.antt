@@ -1,9 +1,9 @@
--- `fold::many::guards` meets its contract.
+-- `fold::lanes::many::guards` meets its contract.
 -- Assumes nothing.
 use Rattle.fold.proofs.Strides.{second-most}
 use borrow.Author.Needs.{needs}
-use Rattle.fold.proofs.many.guards.Statement.{statement}
-use Rattle.fold.proofs.many.guards.Tie as tie
+use Rattle.fold.proofs.lanes.many.guards.Statement.{statement}
+use Rattle.fold.proofs.lanes.many.guards.Tie as tie
 
 high-table-requires : tie.Need-high-table-requires
 high-table-requires c κs = search needs

@@ -1,11 +1,11 @@
--- `fold::many::second` meets its contract.
+-- `fold::lanes::many::second` meets its contract.
 -- Assumes nothing.
 use mathlib.Core.Path.{refl}
 use borrow.Author.Needs.{needs}
 use borrow.Author.Tests.{le-leb, lt-leb}
 use Rattle.fold.specs.Many.{secondOf}
-use Rattle.fold.proofs.many.second.Statement.{statement}
-use Rattle.fold.proofs.many.second.Tie as tie
+use Rattle.fold.proofs.lanes.many.second.Statement.{statement}
+use Rattle.fold.proofs.lanes.many.second.Tie as tie
 
 sub-result : tie.Need-sub-result
 sub-result c = search needs
