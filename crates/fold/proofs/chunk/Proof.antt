@@ -6,8 +6,8 @@ use Prim.Native.Nat.{ℕ, _+_, _-_, _≤_, _<_}
 use native.Mathlib.Omega.{arith}
 use lib.ListN.{length, getD, length-set}
 use Rattle.fold.specs.Folds.{mix}
-use Rattle.fold.proofs.Puts.{put-next, put-first}
-use borrow.Author.Needs.{needs, read-below, read-above}
+use Rattle.fold.proofs.Puts.{put-first, Written, written-next}
+use borrow.Author.Needs.{needs}
 use Rattle.fold.proofs.chunk.Statement.{statement}
 use Rattle.fold.proofs.chunk.Tie as tie
 
@@ -18,7 +18,7 @@ abbrev μ-loop : tie.MeasureT-loop
 μ-loop c o d e f b p w q x₀ j₀ x j = c - j
 
 abbrev Inv-loop2 : tie.InvT-loop2
-Inv-loop2 c o d e f b p w₀ q x j k₀ w k = (k ≤ c) × (length w ≡ length w₀) × ((i : ℕ) → i < q + o → getD w i 0 ≡ getD w₀ i 0) × ((i : ℕ) → q + o + k ≤ i → getD w i 0 ≡ getD w₀ i 0) × ((m : ℕ) → m < k → getD w (q + o + m) 0 ≡ getD x m 0)
+Inv-loop2 c o d e f b p w₀ q x j k₀ w k = Written (λ m. getD x m 0) c (q + o) w₀ w k
 
 abbrev μ-loop2 : tie.MeasureT-loop2
 μ-loop2 c o d e f b p w₀ q x j k₀ w k = c - k
@@ -76,14 +76,7 @@ loop2-again c =
     let a = c .before .before .before .before .before .before .args in
     let at = c .before .loop2 in
     let x = c .before .before .before .loop .x in
-    let to = a .q + a .o + at .k in
-    let v = getD x (at .k) 0 in (
-      omega arith,
-      length-set (at .w) to v ∙ at .inv .1,
-      (λ i h. read-below ℕ (at .w) to i v 0 (getD (a .w .now) i 0) (omega arith) (at .inv .2 i h)),
-      (λ i h. read-above ℕ (at .w) to i v 0 (getD (a .w .now) i 0) (omega arith) (at .inv .3 i (omega arith))),
-      put-next (at .w) (a .q + a .o) (at .k) v (λ m. getD x m 0) (search needs) (at .inv .4) refl,
-    )
+    written-next (λ m. getD x m 0) (a .c) (a .q + a .o) (a .w .now) (at .w) (at .k) (getD x (at .k) 0) (omega arith) (search needs) (at .inv) refl
 
 same-length : tie.Need-same-length Inv-loop μ-loop Inv-loop2 μ-loop2
 same-length c = search needs

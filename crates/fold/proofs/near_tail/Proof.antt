@@ -6,15 +6,13 @@ use Prim.Native.Nat.{ℕ, _+_, _-_, _≤_, _<_}
 use native.Mathlib.Omega.{arith}
 use lib.ListN.{length, getD, length-set}
 use Rattle.fold.specs.Folds.{mix}
-use Rattle.fold.proofs.Puts.{put-next}
-use borrow.Author.Needs.{needs, read-below, read-above}
+use Rattle.fold.proofs.Puts.{Written, written-next}
+use borrow.Author.Needs.{needs}
 use Rattle.fold.proofs.near_tail.Statement.{statement}
 use Rattle.fold.proofs.near_tail.Tie as tie
 
 abbrev Inv-loop : tie.InvT-loop
-Inv-loop m n b p w q t₀ s j₀ t j =
-    (j ≤ n) × (length t ≡ length t₀) × ((i : ℕ) → i < s → getD t i 0 ≡ getD t₀ i 0) × ((i : ℕ) → s + j ≤ i → getD t i 0 ≡ getD t₀ i 0)
-    × ((k : ℕ) → k < j → getD t (s + k) 0 ≡ mix (16 ∷ 11 ∷ 8 ∷ 1 ∷ []) (getD b (p + m + k) 0) w (q + m + k))
+Inv-loop m n b p w q t₀ s j₀ t j = Written (λ k. mix (16 ∷ 11 ∷ 8 ∷ 1 ∷ []) (getD b (p + m + k) 0) w (q + m + k)) n s t₀ t j
 
 abbrev μ-loop : tie.MeasureT-loop
 μ-loop m n b p w q t₀ s j₀ t j = n - j
@@ -53,14 +51,8 @@ loop-again : tie.Need-loop-again Inv-loop μ-loop
 loop-again c =
     let a = c .before .before .before .before .before .before .args in
     let at = c .before .before .loop in
-    let to = a .s + at .j in
-    let v = c .mixed-four .result in (
-      omega arith,
-      length-set (at .t) to v ∙ at .inv .1,
-      (λ i h. read-below ℕ (at .t) to i v 0 (getD (a .t .now) i 0) (omega arith) (at .inv .2 i h)),
-      (λ i h. read-above ℕ (at .t) to i v 0 (getD (a .t .now) i 0) (omega arith) (at .inv .3 i (omega arith))),
-      put-next (at .t) (a .s) (at .j) v (λ k. mix (16 ∷ 11 ∷ 8 ∷ 1 ∷ []) (getD (a .b .now) (a .p + a .m + k) 0) (a .w .now) (a .q + a .m + k)) (search needs) (at .inv .4) (c .mixed-four .ensures),
-    )
+    written-next (λ k. mix (16 ∷ 11 ∷ 8 ∷ 1 ∷ []) (getD (a .b .now) (a .p + a .m + k) 0) (a .w .now) (a .q + a .m + k)) (a .n) (a .s) (a .t .now) (at .t) (at .j) (c .mixed-four .result)
+    (omega arith) (search needs) (at .inv) (c .mixed-four .ensures)
 
 same-length : tie.Need-same-length Inv-loop μ-loop
 same-length c = search needs

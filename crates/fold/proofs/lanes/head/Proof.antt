@@ -3,18 +3,16 @@
 use mathlib.Core.Path.{_≡_, refl, ap, _∙_}
 use Prim.Native.Nat.{ℕ, _+_, _-_, _≤_, _<_}
 use native.Mathlib.Omega.{arith}
-use lib.ListN.{length, getD, length-set}
+use lib.ListN.{getD}
 use Rattle.fold.specs.Eights.{Head}
-use Rattle.fold.proofs.Puts.{put-next}
+use Rattle.fold.proofs.Puts.{Written, written-none, written-next}
 use Rattle.fold.proofs.Taken.{either}
-use borrow.Author.Needs.{needs, read-below, read-above}
+use borrow.Author.Needs.{needs}
 use Rattle.fold.proofs.lanes.head.Statement.{statement}
 use Rattle.fold.proofs.lanes.head.Tie as tie
 
 abbrev Inv-loop : tie.InvT-loop
-Inv-loop b p w q v₀ s j₀ v j =
-    (j ≤ 8) × (length v ≡ length v₀) × ((i : ℕ) → i < s + 64 → getD v i 0 ≡ getD v₀ i 0) × ((i : ℕ) → s + 64 + j ≤ i → getD v i 0 ≡ getD v₀ i 0)
-    × ((k : ℕ) → k < j → getD v (s + 64 + k) 0 ≡ 0)
+Inv-loop b p w q v₀ s j₀ v j = Written (λ k. 0) 8 (s + 64) v₀ v j
 
 abbrev μ-loop : tie.MeasureT-loop
 μ-loop b p w q v₀ s j₀ v j = 8 - j
@@ -26,7 +24,9 @@ tail-requires : tie.Need-tail-requires Inv-loop μ-loop
 tail-requires c κs = search needs
 
 loop-holds : tie.Need-loop-holds Inv-loop μ-loop
-loop-holds c = (search needs, refl, (λ i h. refl), (λ i h. refl), (λ k h. absurd (omega arith)))
+loop-holds c =
+    let s = c .before .before .before .before .before .before .before .args .s in
+    written-none (λ k. 0) 8 (s + 64) (c .before .before .tail .last .1 .1 .1 .1 .1 .1 .1 .1 .1 .0)
 
 add-v : tie.Need-add-v Inv-loop μ-loop
 add-v c = search needs
@@ -59,14 +59,7 @@ loop-again c =
     let pre = c .before .before .before .before .before .before .before .before .before .pre in
     let at = c .before .loop in
     let tail = c .before .before .before .before .tail in
-    let v = tail .last .1 .1 .1 .1 .1 .1 .1 .1 .1 .0 in
-    let to = s + 64 + at .j in (
-      omega arith,
-      length-set (at .v) to 0 ∙ at .inv .1,
-      (λ i h. read-below ℕ (at .v) to i 0 0 (getD v i 0) (omega arith) (at .inv .2 i h)),
-      (λ i h. read-above ℕ (at .v) to i 0 0 (getD v i 0) (omega arith) (at .inv .3 i (omega arith))),
-      put-next (at .v) (s + 64) (at .j) 0 (λ k. 0) (omega (arith, at .inv .1, tail .ensures .long, pre .1 .0)) (at .inv .4) refl,
-    )
+    written-next (λ k. 0) 8 (s + 64) (tail .last .1 .1 .1 .1 .1 .1 .1 .1 .1 .0) (at .v) (at .j) 0 (omega arith) (omega (arith, at .inv .1, tail .ensures .long, pre .1 .0)) (at .inv) refl
 
 same-length : tie.Need-same-length Inv-loop μ-loop
 same-length c = c .before .loop .inv .1 ∙ c .before .before .before .before .tail .ensures .long
