@@ -1,10 +1,9 @@
 -- `fold::tail` meets its contract. The invariant: what is written so far; what stands before it and after it stays.
 -- Assumes nothing.
-use mathlib.Core.Path.{_≡_, _∙_}
 use mathlib.Core.List.{[], _∷_}
-use Prim.Native.Nat.{ℕ, _+_, _-_, _≤_, _<_}
+use Prim.Native.Nat.{_+_, _-_}
 use native.Mathlib.Omega.{arith}
-use lib.ListN.{length, getD, length-set}
+use lib.ListN.{getD}
 use Rattle.fold.specs.Folds.{mix}
 use Rattle.fold.proofs.Puts.{Written, written-next}
 use borrow.Author.Needs.{needs}

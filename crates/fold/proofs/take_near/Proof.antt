@@ -3,23 +3,20 @@
 -- Assumes nothing.
 use mathlib.Core.Path.{_≡_, refl, sym, ap, _∙_}
 use mathlib.Core.List.{[], _∷_}
-use Prim.Native.Nat.{ℕ, _+_, _-_, _≤_, _<_}
+use Prim.Native.Nat.{ℕ, _+_, _-_, _<_}
 use native.Mathlib.Nat.{zero-add}
 use native.Mathlib.Omega.{arith}
-use lib.ListN.{length, getD, length-set}
+use lib.ListN.{getD}
 use Rattle.crc.specs.Crc.{Bytes}
-use Rattle.fold.specs.Folds.{Lane}
 use Rattle.fold.proofs.Buffers.{mix-blank}
 use Rattle.fold.proofs.Carrying.{bytes-set}
-use Rattle.fold.proofs.Puts.{put-next}
-use borrow.Author.Needs.{needs, read-below, read-above}
+use Rattle.fold.proofs.Puts.{Written, written-none, written-next}
+use borrow.Author.Needs.{needs}
 use Rattle.fold.proofs.take_near.Statement.{statement}
 use Rattle.fold.proofs.take_near.Tie as tie
 
 abbrev Inv-loop : tie.InvT-loop
-Inv-loop b w₀ j₀ w j =
-    (j ≤ 24) × (length w ≡ 104) × Bytes w × ((i : ℕ) → i < 40 → getD w i 0 ≡ 0) × ((i : ℕ) → 64 ≤ i → getD w i 0 ≡ 0)
-    × ((k : ℕ) → k < j → getD w (40 + k) 0 ≡ getD b k 0)
+Inv-loop b w₀ j₀ w j = Bytes w × Written (λ k. getD b k 0) 24 40 w₀ w j
 
 abbrev μ-loop : tie.MeasureT-loop
 μ-loop b w₀ j₀ w j = 24 - j
@@ -27,7 +24,7 @@ abbrev μ-loop : tie.MeasureT-loop
 loop-holds : tie.Need-loop-holds Inv-loop μ-loop
 loop-holds c =
     let blank = c .pre .1 .1 in
-    (search needs, c .pre .1 .0, (λ k. omega (arith, blank k)), (λ i h. blank i), (λ i h. blank i), (λ k h. absurd (omega arith)))
+    ((λ k. omega (arith, blank k)), written-none (λ k. getD (c .args .b .now) k 0) 24 40 (c .args .w .now))
 
 shared-slice-read-w : tie.Need-shared-slice-read-w Inv-loop μ-loop
 shared-slice-read-w c = search needs
@@ -46,16 +43,13 @@ loop-less c = search needs
 
 loop-again : tie.Need-loop-again Inv-loop μ-loop
 loop-again c =
+    let a = c .before .before .before .args in
+    let pre = c .before .before .before .pre in
     let at = c .before .before .loop in
-    let b = c .before .before .before .args .b .now in
-    let v = getD b (at .j) 0 in
-    let to = 40 + at .j in (
-      omega arith,
-      length-set (at .w) to v ∙ at .inv .1,
-      bytes-set (at .w) to v (at .inv .2) (omega (arith, c .shared-slice-known .given (at .j))),
-      (λ i h. read-below ℕ (at .w) to i v 0 0 (omega arith) (at .inv .3 i h)),
-      (λ i h. read-above ℕ (at .w) to i v 0 0 (omega arith) (at .inv .4 i h)),
-      put-next (at .w) 40 (at .j) v (λ k. getD b k 0) (omega arith) (at .inv .5) refl,
+    let b = a .b .now in
+    let v = getD b (at .j) 0 in (
+      bytes-set (at .w) (40 + at .j) v (at .inv .0) (omega (arith, c .shared-slice-known .given (at .j))),
+      written-next (λ k. getD b k 0) 24 40 (a .w .now) (at .w) (at .j) v (omega arith) (omega (arith, at .inv .1 .1, pre .1 .0)) (at .inv .1) refl,
     )
 
 same-length : tie.Need-same-length Inv-loop μ-loop
@@ -65,14 +59,17 @@ returns : tie.Need-returns Inv-loop μ-loop
 returns c =
     let at = c .before .loop in
     let b = c .before .before .args .b .now in
-    let w = at .w in (
-      at .inv .1,
-      at .inv .2,
+    let pre = c .before .before .pre .1 in
+    let w = at .w in
+    let done = at .inv .1 in
+    let front : (j : ℕ) → j < 40 → getD w j 0 ≡ 0 = λ j h. done .2 j h ∙ pre .1 j in (
+      done .1 ∙ pre .0,
+      at .inv .0,
       record {
-        front = λ j h. ap (λ (x : ℕ). getD w x 0) (zero-add j) ∙ at .inv .3 j h;
-        back = λ j g h. ap (λ (x : ℕ). getD w x 0) (zero-add j) ∙ at .inv .4 j g;
-        made = λ k h. at .inv .5 k (omega arith) ∙ ap (λ (x : ℕ). getD b x 0) (sym (zero-add k))
-            ∙ sym (mix-blank (16 ∷ 11 ∷ 8 ∷ 1 ∷ []) 17 (getD b (0 + k) 0) w (0 + k) (omega arith, (omega arith, (omega arith, (omega arith, tt)))) (λ d l. at .inv .3 (0 + k + d) (omega arith)));
+        front = λ j h. ap (λ (x : ℕ). getD w x 0) (zero-add j) ∙ front j h;
+        back = λ j g h. ap (λ (x : ℕ). getD w x 0) (zero-add j) ∙ done .3 j (omega arith) ∙ pre .1 j;
+        made = λ k h. done .4 k (omega arith) ∙ ap (λ (x : ℕ). getD b x 0) (sym (zero-add k))
+            ∙ sym (mix-blank (16 ∷ 11 ∷ 8 ∷ 1 ∷ []) 17 (getD b (0 + k) 0) w (0 + k) (omega arith, (omega arith, (omega arith, (omega arith, tt)))) (λ d l. front (0 + k + d) (omega arith)));
       },
     )
 

@@ -1,7 +1,7 @@
 -- `fold::lanes::head` meets its contract. The invariant: what is cleared so far; the rest stays as the bytes were written.
 -- Assumes nothing.
 use mathlib.Core.Path.{_≡_, refl, ap, _∙_}
-use Prim.Native.Nat.{ℕ, _+_, _-_, _≤_, _<_}
+use Prim.Native.Nat.{ℕ, _+_, _-_, _≤_}
 use native.Mathlib.Omega.{arith}
 use lib.ListN.{getD}
 use Rattle.fold.specs.Eights.{Head}
