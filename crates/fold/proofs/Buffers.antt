@@ -11,7 +11,7 @@ use lib.Seq.{length-take-le, getD-take, getD-drop}
 use lib.Bits.{bitXor, xor-zero-r}
 use Rattle.xor.proofs.Bits.{xor-assoc, xor-swap}
 use Rattle.crc.specs.Guard.{guard}
-use Rattle.table.specs.Tables.{table}
+use Rattle.table.specs.Tables.{entries}
 use Rattle.fold.specs.Folds.{mix, Chunk, Lane}
 use Rattle.fold.proofs.Taken.{zeros, zeros-at, bit-guard, Below, moved, pulled, folded, either}
 
@@ -116,7 +116,7 @@ Facing o [] (d ∷ ds) = ⊥
 Facing o (a ∷ ps) [] = ⊥
 Facing o (a ∷ ps) (d ∷ ds) = (suc a + d ≡ o) × Facing o ps ds
 
-module _ (ps ds : List ℕ) (o m n : ℕ) (facing : Facing o ps ds) (below : Below ps n) (eight : table (bit-guard ps n) 0 8 ≡ zeros 8)
+module _ (ps ds : List ℕ) (o m n : ℕ) (facing : Facing o ps ds) (below : Below ps n) (eight : entries (bit-guard ps n) 0 8 ≡ zeros 8)
     (head b : List ℕ) (p : ℕ) (w : List ℕ) (q : ℕ) (t : List ℕ) (s : ℕ)
     (small : (k : ℕ) → getD w k 0 < 256) (lh : length head ≤ o) (lw : q + o + m ≤ length w) (lt : s + n ≤ length t)
     (lane : Lane ds o m n head b p w q m)
@@ -194,7 +194,7 @@ module _ (ps ds : List ℕ) (o m n : ℕ) (facing : Facing o ps ds) (below : Bel
           ∙ ap (λ (x : ℕ). bitXor (getD whole (x + k) 0) (pulled ps v (x + k))) (sym v-long)
 
 -- where nothing stands before the bytes
-pub block-guard : (ps ds : List ℕ) (o m n : ℕ) → Facing o ps ds → Below ps n → table (bit-guard ps n) 0 8 ≡ zeros 8
+pub block-guard : (ps ds : List ℕ) (o m n : ℕ) → Facing o ps ds → Below ps n → entries (bit-guard ps n) 0 8 ≡ zeros 8
     → (b : List ℕ) (p : ℕ) (w : List ℕ) (q : ℕ) (t : List ℕ) (s : ℕ) → ((k : ℕ) → getD w k 0 < 256) → p + (m + n) ≤ length b → q + o + m ≤ length w → s + n ≤ length t
     → Lane ds o m n [] b p w q m → ((k : ℕ) → k < n → getD t (s + k) 0 ≡ mix ds (getD b (p + m + k) 0) w (q + m + k))
     → guard (take (m + n) (drop p b)) ≡ guard (take n (drop s t))

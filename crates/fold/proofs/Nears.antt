@@ -8,7 +8,7 @@ use native.Mathlib.Omega.{arith}
 use lib.ListN.{length, getD, take, drop}
 use lib.Seq.{take-all}
 use Rattle.crc.specs.Guard.{guard}
-use Rattle.table.specs.Tables.{table}
+use Rattle.table.specs.Tables.{entries}
 use Rattle.table.proofs.Entries.{entry}
 use Rattle.fold.specs.Folds.{mix, Lane}
 use Rattle.fold.specs.Eights.{Head}
@@ -17,7 +17,7 @@ use Rattle.fold.proofs.Multiples.{narrow, near}
 
 -- what f says of the first n numbers
 listed : (ℕ → ℕ) → ℕ → List ℕ
-listed f n = table f 0 n
+listed f n = entries f 0 n
 
 listed-at : (f : ℕ → ℕ) (n k : ℕ) → k < n → getD (listed f n) k 0 ≡ f k
 unfolding listed
@@ -27,7 +27,7 @@ length-listed : (f : ℕ → ℕ) (n : ℕ) → length (listed f n) ≡ n
 unfolding listed
 length-listed f n = go 0 n
   where
-    go : (i n : ℕ) → length (table f i n) ≡ n
+    go : (i n : ℕ) → length (entries f i n) ≡ n
     go i zero = refl
     go i (suc n) = ap suc (go (suc i) n)
 

@@ -15,7 +15,7 @@ use Rattle.xor.specs.Xors.{xors}
 use Rattle.xor.proofs.Bits.{bit-elim, xor-assoc, xor-four, xor-undo, xor-twice}
 use Rattle.xor.proofs.Lists.{length-xors, getD-xors, zeros-xors}
 use Rattle.crc.specs.Guard.{run, guard}
-use Rattle.table.specs.Tables.{table}
+use Rattle.table.specs.Tables.{entries}
 use Rattle.fold.specs.Folds.{addAt, addEach}
 use Rattle.table.proofs.Entries.{entry}
 use Rattle.crc.proofs.Joined.{run-joined, run-nil}
@@ -259,7 +259,7 @@ module _ (ps : List ℕ) (n : ℕ) where
       ∙ guard-linear (pattern x) (pattern y) (length-pattern x ∙ sym (length-pattern y))
 
   -- what antt computes: the eight bits of a byte
-  module _ (below : Below ps n) (eight : table bit-guard 0 8 ≡ zeros 8) where
+  module _ (below : Below ps n) (eight : entries bit-guard 0 8 ≡ zeros 8) where
     none : (x : ℕ) → x < 256 → guard (pattern x) ≡ 0
     unfolding pattern
     none =

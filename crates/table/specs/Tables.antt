@@ -6,17 +6,17 @@ use lib.Bits.{bitXor}
 use Rattle.crc.specs.Guard.{guard}
 
 -- f at i, and at the n - 1 numbers after it
-abbrev pub table : (ℕ → ℕ) → ℕ → ℕ → List ℕ
-table f i zero = []
-table f i (suc n) = f i ∷ table f (suc i) n
+abbrev pub entries : (ℕ → ℕ) → ℕ → ℕ → List ℕ
+entries f i zero = []
+entries f i (suc n) = f i ∷ entries f (suc i) n
 
 -- the guard of each byte
 unfoldable pub lows : List ℕ
-lows = table (λ i. guard (i ∷ [])) 0 256
+lows = entries (λ i. guard (i ∷ [])) 0 256
 
 -- the guard of each byte with a zero byte after it
 unfoldable pub highs : List ℕ
-highs = table (λ i. guard (i ∷ 0 ∷ [])) 0 256
+highs = entries (λ i. guard (i ∷ 0 ∷ [])) 0 256
 
 -- a byte looked up in one table, by what it differs in from the register's high byte; the register's low byte moves up
 unfoldable pub lookOne : List ℕ → ℕ → ℕ → ℕ
