@@ -1,3 +1,4 @@
+-- Steps of the code, for the contracts of private functions: no promise of a public call rests on these definitions.
 -- Eight blocks side by side: what the steps leave of each. Of a block's 512 bytes 448 are taken away, and then 24 of the 64 that are left;
 -- a byte of the 64 keeps its place among them throughout. Assumes nothing.
 use mathlib.Core.Path.{_≡_}

@@ -1,3 +1,4 @@
+-- Steps of the code, for the contracts of private functions: no promise of a public call rests on these definitions.
 -- Folding a run of bytes: the bytes at its front are taken away, and each is added at some places further on. What the steps of a fold
 -- leave in the buffers they write. Assumes nothing.
 use mathlib.Core.Path.{_≡_}

@@ -1,3 +1,4 @@
+-- Steps of the code, for the contracts of private functions: no promise of a public call rests on these definitions.
 -- Sixteen runs, eight at a time: where the second eight begin, and which guards are known so far. Assumes nothing.
 use mathlib.Core.Path.{_≡_}
 use mathlib.Core.List.{List}

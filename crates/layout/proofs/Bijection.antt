@@ -6,20 +6,13 @@ use mathlib.Core.Logic.{_≢_, _⊎_, inl, inr}
 use Prim.Native.Nat.{ℕ, _<_}
 use native.Mathlib.Decide.{ℕ-discrete}
 use Rattle.layout.specs.Arrays.{dataMembers, blockRefusal}
-use Rattle.layout.specs.Places.{parityMember, blockAt, stripeOf, indexOf, indexAt, memberOf, placeNumbers, ownerRefusal, ownerNumbers}
+use Rattle.layout.specs.Places.{parityMember, blockAt, stripeOf, indexOf, indexAt, memberOf, placeNumbers, ownerRefusal, ownerNumbers, OneBlock}
+use Rattle.layout.specs.Ranges.{SoundBlock}
 use Rattle.layout.specs.declared.Array.{Array}
-use Rattle.layout.proofs.Ranges.{SoundBlock, block-sound, sound-block, place-sound, sound-place}
+use Rattle.layout.proofs.Ranges.{block-sound, sound-block, place-sound, sound-place}
 use Rattle.layout.proofs.Members.{member-below, member-not-parity, index-of-member, member-of-index, index-below}
 use Rattle.layout.proofs.Blocks.{stripe-of-block, index-of-block, block-of-parts, index-in-stripe, stripe-in-array, block-in-array, stripe-by-lowest}
 use Rattle.layout.proofs.Numbers.{place-numbers, owner-of-parity, owner-of-data}
-
--- a place holds one block, and no second
-pub record OneBlock (a : Array) (stripe member : ℕ) : Type 0 where
-  pub block : ℕ
-  pub good : blockRefusal a block ≡ 0
-  pub in-stripe : stripeOf a block ≡ stripe
-  pub on-member : memberOf a block ≡ member
-  pub only : (other : ℕ) → stripeOf a other ≡ stripe → memberOf a other ≡ member → other ≡ block
 
 module _ (a : Array) where
   -- ---- there and back

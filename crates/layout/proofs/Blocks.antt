@@ -5,8 +5,8 @@ use native.Mathlib.Nat.{mod-lt, mod-eq-of-lt, div-add-mod', div-lt-iff-lt-mul, m
 use native.Mathlib.Omega.{arith}
 use Rattle.layout.specs.Arrays.{dataMembers, blockCount}
 use Rattle.layout.specs.Places.{lowestBlock, blockAt, stripeOf, indexOf}
+use Rattle.layout.specs.Ranges.{Sound, SoundStripe, SoundBlock}
 use Rattle.layout.specs.declared.Array.{Array}
-use Rattle.layout.proofs.Ranges.{Sound, SoundStripe, SoundBlock}
 
 module _ (a : Array) where
   pub stripe-of-block : (stripe index : ℕ) → index < dataMembers a → stripeOf a (blockAt a stripe index) ≡ stripe

@@ -3,35 +3,16 @@
 use mathlib.Core.Path.{_≡_, refl}
 use mathlib.Core.Bool.{Bool, true, false, not, _&&_}
 use mathlib.Core.Logic.{_↔_}
-use Prim.Native.Nat.{ℕ, _≤_, _<_}
+use Prim.Native.Nat.{ℕ, _≤_}
 use native.Mathlib.Omega.{arith}
 use borrow.Author.Tests.{leb-true, le-leb}
 use lib.Dec.{leb}
 use Rattle.layout.specs.Answers.{refuse, orPast}
 use Rattle.layout.specs.Arrays.{within, membersFit, stripesFit, arrayRefusal, blockCount, stripeRefusal, blockRefusal}
 use Rattle.layout.specs.Places.{ownerRefusal}
+use Rattle.layout.specs.Ranges.{Sound, SoundStripe, SoundBlock, SoundPlace}
 use Rattle.layout.specs.declared.Array.{Array}
 use Rattle.layout.proofs.Answers.{refuse-none, or-past-none, none-or-past, or-past-number, number-or-past, or-past-most}
-
--- the array's own numbers are in range
-pub record Sound (a : Array) : Type 0 where
-  pub few : 3 ≤ a .members
-  pub many : a .members ≤ 16
-  pub some : 1 ≤ a .stripes
-  pub most : a .stripes ≤ 268435456
-
--- and a stripe, a block, a place of it are
-pub record SoundStripe (a : Array) (stripe : ℕ) : Type 0 where
-  pub array : Sound a
-  pub here : stripe < a .stripes
-
-pub record SoundBlock (a : Array) (block : ℕ) : Type 0 where
-  pub array : Sound a
-  pub here : block < blockCount a
-
-pub record SoundPlace (a : Array) (s m : ℕ) : Type 0 where
-  pub stripe : SoundStripe a s
-  pub here : m < a .members
 
 both : (s t : Bool) → (s && t) ≡ true → (s ≡ true) × (t ≡ true)
 both true t e = (refl, e)

@@ -2,6 +2,7 @@
 -- in order: the layout that Linux md calls right-asymmetric. Everything a later row length would change is named here.
 -- Assumes nothing.
 use Prim.Native.Nat.{ℕ, _+_, _-_, _*_, _/_, _%_}
+use mathlib.Core.Path.{_≡_}
 use mathlib.Core.Bool.{Bool, cond}
 use mathlib.Core.List.{List, [], _∷_}
 use lib.Dec.{ltb, eqb}
@@ -72,3 +73,12 @@ unfoldable pub ownerNumbers : Array → ℕ → ℕ → List ℕ
 ownerNumbers a stripe member =
     answer (ownerRefusal a stripe member)
     (cond (isParity a stripe member) (1 ∷ lowestBlock a stripe ∷ []) (0 ∷ blockAt a stripe (indexAt a stripe member) ∷ []))
+
+-- ---- a place holds one block of the array, and no second
+
+pub record OneBlock (a : Array) (stripe member : ℕ) : Type 0 where
+  pub block : ℕ
+  pub good : blockRefusal a block ≡ 0
+  pub in-stripe : stripeOf a block ≡ stripe
+  pub on-member : memberOf a block ≡ member
+  pub only : (other : ℕ) → stripeOf a other ≡ stripe → memberOf a other ≡ member → other ≡ block

@@ -10,8 +10,9 @@ use lib.Dec.{leb, eqb}
 use lib.ListN.{length, getD, take, length-take}
 use lib.Seq.{take-all}
 use Rattle.layout.specs.Arrays.{arrayRefusal}
+use Rattle.layout.specs.Ranges.{Sound}
 use Rattle.layout.proofs.Answers.{refuse-none}
-use Rattle.layout.proofs.Ranges.{Sound, array-sound}
+use Rattle.layout.proofs.Ranges.{array-sound}
 use Rattle.tag.specs.Numbers.{numberOf}
 use Rattle.tag.proofs.Numbers.{number-of-two, number-of-four, take-elements}
 use Rattle.lines.specs.Headers.{headerLength, arrayIn, headerRefusal}

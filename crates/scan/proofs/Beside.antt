@@ -15,16 +15,17 @@ use lib.Seq.{getD-set-same, getD-set-other, set-out}
 use Rattle.xor.specs.Xors.{combination}
 use Rattle.crc.specs.Crc.{bitsOf, Bytes, Within}
 use Rattle.crc.specs.Guard.{guard}
+use Rattle.layout.specs.Ranges.{Sound}
 use Rattle.layout.specs.declared.Array.{Array}
 use Rattle.layout.proofs.Answers.{refuse-none}
-use Rattle.layout.proofs.Ranges.{Sound}
 use Rattle.tag.specs.Blocks.{dataLength, dataOf}
 use Rattle.tag.proofs.Numbers.{bytes-joined}
 use Rattle.verdict.specs.Verdicts.{quickNumbers}
 use Rattle.stripe.specs.Tables.{all}
 use Rattle.stripe.specs.Formats.{t10, whole}
 use Rattle.stripe.specs.Verdicts.{verdict, scrubBlocks, storedGuard}
-use Rattle.stripe.proofs.Quick.{Whole, fits-where-zero, differs-within}
+use Rattle.stripe.specs.Stripes.{Whole}
+use Rattle.stripe.proofs.Quick.{fits-where-zero, differs-within}
 use Rattle.scan.specs.History.{Call, piece, finish, begun, kept, pieceNumber, finishNumber}
 use Rattle.scan.proofs.Finishes.{all-whole}
 use Rattle.scan.proofs.Simulation.{held-follows-history}

@@ -19,7 +19,8 @@ use Rattle.tag.proofs.Checks.{check-good, sound-check}
 use Rattle.tag.proofs.Expected.{due-somewhere}
 use Rattle.tag.proofs.Within.{tag-inside}
 use Rattle.stripe.specs.Tables.{span}
-use Rattle.stripe.specs.Stripes.{blockOf, saysGood}
+use Rattle.stripe.specs.Stripes.{blockOf}
+use Rattle.stripe.specs.Steps.{saysGood}
 use Rattle.stripe.proofs.Rows.{lent-span, length-span}
 use Rattle.stripe.proofs.Blocks.{drop-take}
 

@@ -1,26 +1,20 @@
 -- What scrubs clean: a sealed stripe, and one that was clean after an update or a rebuild.
 -- Assumes nothing.
-use mathlib.Core.Path.{_≡_, refl, sym, ap, _∙_}
-use mathlib.Core.Logic.{_≢_}
-use mathlib.Core.Bool.{true}
-use mathlib.Core.List.{List, [], _∷_}
+use mathlib.Core.Path.{_≡_, ap, _∙_}
+use mathlib.Core.List.{List}
 use Prim.Native.Nat.{ℕ, _*_, _<_}
 use lib.ListN.{length}
-use Rattle.layout.specs.Arrays.{dataMembers, stripeRefusal}
+use Rattle.layout.specs.Arrays.{dataMembers}
 use Rattle.layout.specs.Places.{stripeOf}
+use Rattle.layout.specs.Ranges.{SoundStripe}
 use Rattle.layout.specs.declared.Array.{Array}
-use Rattle.layout.proofs.Ranges.{SoundStripe, sound-stripe}
-use Rattle.stripe.specs.Stripes.{stripeLength}
+use Rattle.layout.proofs.Ranges.{sound-stripe}
 use Rattle.stripe.specs.Jobs.{sealed, updateRefusal, updateBytes}
-use Rattle.stripe.specs.Verdicts.{scrubNumbers, scrubRefusal}
-use Rattle.stripe.proofs.Scrubs.{scrub-clean, sound-scrub, scrub-sound}
+use Rattle.stripe.specs.Verdicts.{scrubNumbers, scrubRefusal, clean}
+use Rattle.stripe.proofs.Scrubs.{scrub-clean, sound-scrub}
 use Rattle.stripe.proofs.Seals.{length-sealed}
 use Rattle.stripe.proofs.Sealed.{sealed-good, sealed-parity}
 use Rattle.stripe.proofs.Updated.{update-keeps-length, update-keeps-clean}
-
--- the answer that a stripe is clean: done, no refusal, no bad member, no torn place
-abbrev pub clean : List ℕ
-clean = 1 ∷ 0 ∷ 0 ∷ 0 ∷ 0 ∷ []
 
 pub sealed-clean : (a : Array) (stripe : ℕ) (content : List ℕ) → SoundStripe a stripe → length content ≡ 512 * dataMembers a → a .volume < 256
     → scrubNumbers a stripe (sealed a stripe content) ≡ clean

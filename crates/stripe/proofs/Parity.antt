@@ -1,26 +1,22 @@
 -- All members together, and all but one: the one is what the others lack of zero.
 -- Assumes nothing.
-use mathlib.Core.Path.{_≡_, refl, sym, ap, ap₂, _∙_}
+use mathlib.Core.Path.{_≡_, sym, ap, ap₂, _∙_}
 use mathlib.Core.Logic.{_≢_}
 use mathlib.Core.List.{List, []}
-use Prim.Native.Nat.{ℕ, _+_, _*_, _≤_, _<_}
+use Prim.Native.Nat.{ℕ, _*_, _≤_, _<_}
 use native.Mathlib.Decide.{ℕ-discrete}
 use native.Mathlib.Omega.{arith}
-use lib.ListN.{length, getD, set, replicate, length-set, length-take}
+use lib.ListN.{length, getD, set, replicate, length-set}
 use lib.Seq.{ext-getD, getD-set-same, getD-set-other}
 use Rattle.xor.specs.Xors.{xors, addAll, combination}
-use Rattle.xor.proofs.Lists.{xors-nil, xors-twice, xors-eq, xors-self, length-xors}
-use Rattle.xor.proofs.Combination.{addAll-set, length-combination}
+use Rattle.xor.proofs.Lists.{xors-nil, xors-twice, xors-eq, xors-self}
+use Rattle.xor.proofs.Combination.{addAll-set}
 use Rattle.tag.specs.Blocks.{dataOf}
 use Rattle.tag.proofs.Tagged.{length-data}
-use Rattle.stripe.specs.Tables.{table, others}
-use Rattle.stripe.specs.Stripes.{blockOf, memberData, othersData}
+use Rattle.stripe.specs.Tables.{others}
+use Rattle.stripe.specs.Stripes.{blockOf, memberData, othersData, Parity}
 use Rattle.stripe.proofs.Tables.{length-table, getD-table}
 use Rattle.stripe.proofs.Rows.{addAll-others, length-othersData, length-span}
-
--- the data of all members of a stripe combine to zero: parity is right
-abbrev pub Parity : ℕ → List ℕ → Type 0
-Parity n bytes = combination 512 (memberData n bytes) ≡ replicate 512 0
 
 module _ (n m : ℕ) (bytes : List ℕ) (here : m < n) where
   -- all are the others and the one

@@ -19,8 +19,8 @@ use Rattle.crc.specs.Crc.{bitsOf, Bytes, Within}
 use Rattle.crc.specs.Guard.{guard}
 use Rattle.crc.proofs.Linear.{guard-linear, bitsOf-xors}
 use Rattle.crc.proofs.Noticed.{noticed}
+use Rattle.layout.specs.Ranges.{Sound}
 use Rattle.layout.specs.declared.Array.{Array}
-use Rattle.layout.proofs.Ranges.{Sound}
 use Rattle.tag.specs.Blocks.{dataLength, blockLength, dataOf}
 use Rattle.tag.specs.Tags.{due, good}
 use Rattle.tag.specs.declared.Fields.{Fields}
@@ -29,6 +29,7 @@ use Rattle.tag.proofs.Tagged.{length-data, bytes-of-data}
 use Rattle.verdict.specs.Verdicts.{combinedGuards, quickRefusal, quickNumbers}
 use Rattle.verdict.proofs.Verdicts.{zeros-at}
 use Rattle.verdict.proofs.Quick.{sound-quick, quick-fits, quick-differs}
+use Rattle.stripe.specs.Stripes.{Whole}
 use Rattle.stripe.specs.Verdicts.{storedGuard, scrubBlocks}
 use Rattle.stripe.proofs.Scrubs.{blocks-good}
 
@@ -55,11 +56,6 @@ guard-combination n runs long =
     ∙ ap (λ (g : ℕ). bitXor g (combinedGuards (map guard runs))) (guard-zeros n)
 
 -- ---- whole blocks, as many as the array has members
-
-pub record Whole (a : Array) (blocks : List (List ℕ)) : Type 0 where
-  pub all-there : length blocks ≡ a .members
-  pub long : (i : ℕ) → i < length blocks → length (getD blocks i []) ≡ blockLength
-  pub bytes : (i : ℕ) → Bytes (getD blocks i [])
 
 lengths-data : (blocks : List (List ℕ)) → ((i : ℕ) → i < length blocks → length (getD blocks i []) ≡ blockLength)
     → (i : ℕ) → i < length (map dataOf blocks) → length (getD (map dataOf blocks) i []) ≡ dataLength

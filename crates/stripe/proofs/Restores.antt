@@ -2,11 +2,11 @@
 -- data come back, whatever stands in their place, and the whole stripe with them. Where they did not (01 calls such a stripe torn), the
 -- rebuilt block is another one, and its tag fits all the same.
 -- Assumes nothing.
-use mathlib.Core.Path.{_≡_, refl, sym, ap, ap₂, _∙_}
+use mathlib.Core.Path.{_≡_, sym, ap, _∙_}
 use mathlib.Core.Logic.{_≢_}
 use mathlib.Core.Bool.{true, false}
 use mathlib.Core.List.{List, [], _∷_}
-use Prim.Native.Nat.{ℕ, _*_, _≤_, _<_}
+use Prim.Native.Nat.{ℕ, _*_, _<_}
 use native.Mathlib.Decide.{ℕ-discrete}
 use native.Mathlib.Omega.{arith}
 use lib.ListN.{length}
@@ -20,14 +20,14 @@ use Rattle.layout.proofs.Bijection.{place-refusal}
 use Rattle.tag.specs.Blocks.{dataOf}
 use Rattle.tag.specs.Tags.{good, tagged}
 use Rattle.tag.proofs.Tagged.{length-tagged, data-of-tagged, tagged-good, good-tagged}
-use Rattle.stripe.specs.Stripes.{stripeLength, blockOf, othersData, othersGood}
-use Rattle.stripe.specs.Jobs.{rebuilt, rebuildRefusal, rebuildBytes}
+use Rattle.stripe.specs.Stripes.{stripeLength, blockOf, othersData, othersGood, Parity}
+use Rattle.stripe.specs.Jobs.{rebuilt, rebuildRefusal, rebuildBytes, Reads}
 use Rattle.stripe.proofs.Rows.{length-othersData, length-span}
 use Rattle.stripe.proofs.Blocks.{block-written, block-kept, same-blocks}
 use Rattle.stripe.proofs.Others.{good-others}
 use Rattle.stripe.proofs.Rebuilds.{rebuild-others, rebuild-done}
-use Rattle.stripe.proofs.Served.{Reads, read-rebuilt}
-use Rattle.stripe.proofs.Parity.{Parity, others-are-one, one-is-others, others-ext}
+use Rattle.stripe.proofs.Served.{read-rebuilt}
+use Rattle.stripe.proofs.Parity.{others-are-one, one-is-others, others-ext}
 
 module _ (a : Array) (stripe member : ℕ) (bytes : List ℕ) (place : ownerRefusal a stripe member ≡ 0) (long : length bytes ≡ stripeLength a) where
   here : member < a .members

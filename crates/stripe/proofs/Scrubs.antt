@@ -22,13 +22,15 @@ use Rattle.layout.proofs.Ranges.{stripe-sound, sound-place}
 use Rattle.tag.specs.Blocks.{dataLength, dataOf, tagOf}
 use Rattle.tag.specs.Tags.{found, due, fits, good, bad}
 use Rattle.verdict.specs.Verdicts.{count, lowest, nonzero, judgedBy, judged}
-use Rattle.verdict.proofs.Verdicts.{FirstNonzero, judged-refused, none-bad}
+use Rattle.verdict.specs.Flags.{FirstNonzero}
+use Rattle.verdict.proofs.Verdicts.{judged-refused, none-bad}
 use Rattle.stripe.specs.Tables.{table}
 use Rattle.stripe.specs.Stripes.{stripeLength, blockOf, memberData, othersData}
 use Rattle.stripe.specs.Formats.{t10, dataIn, tagIn, summaryOf}
-use Rattle.stripe.specs.Verdicts.{badMembers, tornPlaces, scrubBlocks, badBlocks, scrubRefusal, scrubNumbers}
+use Rattle.stripe.specs.Verdicts.{badMembers, tornPlaces, scrubBlocks, scrubRefusal, scrubNumbers, FirstFailing}
+use Rattle.stripe.specs.Steps.{badBlocks}
 use Rattle.stripe.proofs.Tables.{length-table, getD-table, table-ext, map-table, others-past}
-use Rattle.stripe.proofs.Verdicts.{judgement, FirstFailing, none-failing, clean-exactly, bad-exactly, torn-exactly}
+use Rattle.stripe.proofs.Verdicts.{judgement, none-failing, clean-exactly, bad-exactly, torn-exactly}
 
 module _ {A B : Type 0} where
   getD-map : (f : A → B) (l : List A) (i : ℕ) (d : B) (e : A) → i < length l → getD (map f l) i d ≡ f (getD l i e)

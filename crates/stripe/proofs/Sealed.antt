@@ -1,29 +1,29 @@
 -- A sealed stripe: every member good, the data combine to zero, and each block holds what was sealed.
 -- Assumes nothing.
 use mathlib.Core.Path.{_≡_, refl, sym, ap, _∙_}
-use mathlib.Core.Logic.{_≢_}
-use mathlib.Core.Bool.{true, cond}
+use mathlib.Core.Bool.{true}
 use mathlib.Core.List.{List, [], _∷_}
 use Prim.Native.Nat.{ℕ, _*_, _<_}
 use native.Mathlib.Omega.{arith}
 use borrow.Author.Tests.{eq-eqb, ne-eqb}
 use lib.ListN.{length}
-use Rattle.layout.specs.Arrays.{dataMembers, blockCount}
-use Rattle.layout.specs.Places.{parityMember, stripeOf, indexOf, memberOf, indexAt}
+use Rattle.layout.specs.Arrays.{dataMembers}
+use Rattle.layout.specs.Places.{parityMember, stripeOf, indexOf, memberOf}
+use Rattle.layout.specs.Ranges.{SoundStripe, SoundBlock}
 use Rattle.layout.specs.declared.Array.{Array}
-use Rattle.layout.proofs.Ranges.{SoundStripe, SoundBlock, sound-place, sound-block}
+use Rattle.layout.proofs.Ranges.{sound-place, sound-block}
 use Rattle.layout.proofs.Members.{parity-below, member-below, index-of-member}
 use Rattle.layout.proofs.Blocks.{index-in-stripe, stripe-in-array}
 use Rattle.layout.proofs.Bijection.{parity-no-block}
 use Rattle.tag.specs.Blocks.{dataOf}
-use Rattle.tag.specs.Tags.{good, tagged}
+use Rattle.tag.specs.Tags.{good}
 use Rattle.tag.proofs.Tagged.{data-of-tagged, tagged-good}
 use Rattle.stripe.specs.Tables.{part}
-use Rattle.stripe.specs.Stripes.{blockOf}
-use Rattle.stripe.specs.Jobs.{sealedData, sealed}
+use Rattle.stripe.specs.Stripes.{blockOf, Parity}
+use Rattle.stripe.specs.Jobs.{sealedData, sealed, Reads}
 use Rattle.stripe.proofs.Seals.{length-sealed, length-sealed-data, block-of-sealed, parity-by-data}
-use Rattle.stripe.proofs.Parity.{Parity, one-is-others}
-use Rattle.stripe.proofs.Served.{Reads, read-stored}
+use Rattle.stripe.proofs.Parity.{one-is-others}
+use Rattle.stripe.proofs.Served.{read-stored}
 
 module _ (a : Array) (stripe : ℕ) (content : List ℕ) (sound : SoundStripe a stripe) (long : length content ≡ 512 * dataMembers a) where
   pub sealed-good : a .volume < 256 → (m : ℕ) → m < a .members → good a stripe m (blockOf (sealed a stripe content) m) ≡ true

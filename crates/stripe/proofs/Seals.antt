@@ -3,7 +3,7 @@
 use mathlib.Core.Path.{_≡_, refl, sym, ap, ap₂, _∙_}
 use mathlib.Core.Logic.{_≢_}
 use mathlib.Core.Bool.{Bool, true, false, not, cond, _&&_}
-use mathlib.Core.List.{List, [], _∷_, _++_}
+use mathlib.Core.List.{List, _∷_}
 use Prim.Native.Nat.{ℕ, zero, suc, _+_, _-_, _*_, _≤_, _<_}
 use native.Mathlib.Nat.{not-suc-le-zero, le-of-suc-le-suc}
 use native.Mathlib.Numerals.{add-one}
@@ -11,7 +11,7 @@ use native.Mathlib.Decide.{ℕ-discrete, decLt}
 use native.Mathlib.Omega.{arith}
 use borrow.Author.Tests.{eq-eqb, ne-eqb, eqb-true, lt-ltb, le-ltb}
 use lib.Dec.{eqb, ltb}
-use lib.ListN.{length, getD, take, drop}
+use lib.ListN.{length, take}
 use lib.Seq.{length-sets}
 use Rattle.xor.specs.Xors.{combination}
 use Rattle.xor.proofs.Combination.{length-combination}
@@ -19,20 +19,22 @@ use Rattle.crc.specs.Guard.{guard}
 use Rattle.crc.specs.Blocks.{guardsOf}
 use Rattle.layout.specs.Answers.{refuse, after}
 use Rattle.layout.specs.Arrays.{dataMembers, stripeRefusal}
-use Rattle.layout.specs.Places.{parityMember, memberAt, indexAt, isParity, ownerRefusal}
+use Rattle.layout.specs.Places.{parityMember, memberAt, indexAt, isParity}
+use Rattle.layout.specs.Ranges.{SoundStripe}
 use Rattle.layout.specs.declared.Array.{Array}
 use Rattle.layout.proofs.Answers.{after-refused, refuse-none}
-use Rattle.layout.proofs.Ranges.{Sound, SoundStripe}
 use Rattle.layout.proofs.Members.{parity-below, member-below, member-not-parity, index-of-member, index-below}
 use Rattle.tag.specs.Blocks.{dataOf}
 use Rattle.tag.specs.Tags.{tagged}
 use Rattle.tag.proofs.Tagged.{length-tagged, data-of-tagged}
 use Rattle.verdict.specs.Verdicts.{combinedGuards}
-use Rattle.stripe.specs.Tables.{table, others, joined, part, span}
+use Rattle.stripe.specs.Tables.{table, others, part}
 use Rattle.stripe.specs.Stripes.{stripeLength, blockOf, memberData, othersData}
-use Rattle.stripe.specs.Jobs.{withBlock, dataBlock, dataWritten, parityOf, sealedData, sealed, sealRefusal, sealBytes}
+use Rattle.stripe.specs.Jobs.{withBlock, parityOf, sealedData, sealed, sealRefusal, sealBytes}
+use Rattle.stripe.specs.Accepted.{Fitting}
+use Rattle.stripe.specs.Steps.{dataBlock, dataWritten}
 use Rattle.stripe.proofs.Tables.{table-ext}
-use Rattle.stripe.proofs.Rows.{length-span, length-othersData}
+use Rattle.stripe.proofs.Rows.{length-span}
 use Rattle.stripe.proofs.Guards.{parts-guard}
 use Rattle.stripe.proofs.Blocks.{block-written, block-kept, span-joined, length-joined, same-blocks}
 
@@ -231,12 +233,7 @@ module _ (a : Array) (stripe contentBytes stripeBytes : ℕ) where
   seal-accepted e h k = rw (e, eq-eqb contentBytes (512 * dataMembers a) h, eq-eqb stripeBytes (stripeLength a) k)
 
   -- 0 is answered only where all that is so
-  pub record Fitting : Type 0 where
-    pub stripe-good : stripeRefusal a stripe ≡ 0
-    pub content-long : contentBytes ≡ 512 * dataMembers a
-    pub stripe-long : stripeBytes ≡ stripeLength a
-
-  pub seal-fitting : sealRefusal a stripe contentBytes stripeBytes ≡ 0 → Fitting
+  pub seal-fitting : sealRefusal a stripe contentBytes stripeBytes ≡ 0 → Fitting a stripe contentBytes stripeBytes
   unfolding sealRefusal
   seal-fitting = by-stripe (stripeRefusal a stripe) refl
     where
@@ -244,7 +241,7 @@ module _ (a : Array) (stripe contentBytes stripeBytes : ℕ) where
       both true t e = (refl, e)
       both false t e = (e, (cc))
 
-      by-stripe : (k : ℕ) → stripeRefusal a stripe ≡ k → after k (refuse (not (eqb contentBytes (512 * dataMembers a) && eqb stripeBytes (stripeLength a))) 6 0) ≡ 0 → Fitting
+      by-stripe : (k : ℕ) → stripeRefusal a stripe ≡ k → after k (refuse (not (eqb contentBytes (512 * dataMembers a) && eqb stripeBytes (stripeLength a))) 6 0) ≡ 0 → Fitting a stripe contentBytes stripeBytes
       by-stripe zero p e =
           let tests = both (eqb contentBytes (512 * dataMembers a)) (eqb stripeBytes (stripeLength a)) (refuse-none (eqb contentBytes (512 * dataMembers a) && eqb stripeBytes (stripeLength a)) 5 0 e .0) in
           record { stripe-good = p; content-long = eqb-true contentBytes (512 * dataMembers a) (tests .0); stripe-long = eqb-true stripeBytes (stripeLength a) (tests .1) }

@@ -17,7 +17,7 @@ use Rattle.layout.proofs.Bijection.{place-refusal}
 use Rattle.tag.specs.Blocks.{dataOf}
 use Rattle.stripe.specs.Tables.{span}
 use Rattle.stripe.specs.Stripes.{stripeLength, blockOf, othersGood, othersData}
-use Rattle.stripe.specs.Jobs.{unlessRefused, storedGood, serveRefusal, servedData, readRefusal, readNumbers, readOut}
+use Rattle.stripe.specs.Jobs.{unlessRefused, storedGood, serveRefusal, servedData, readRefusal, readNumbers, readOut, Reads}
 use Rattle.tag.proofs.Tagged.{length-data}
 use Rattle.stripe.proofs.Rows.{lent-span, length-span}
 use Rattle.stripe.proofs.Others.{others-are-good, good-others}
@@ -120,19 +120,15 @@ placed-sound a block stripe member p = ap₂ (ownerRefusal a) (p .in-stripe) (p 
 -- ---- a block of the array
 
 module _ (a : Array) (block : ℕ) (bytes out : List ℕ) where
-  -- the answer of a read, and what it leaves in the buffer
-  abbrev pub Reads : List ℕ → List ℕ → Type 0
-  Reads numbers left = (numbers ≡ readNumbers a block bytes (length out)) × (left ≡ readOut a block bytes out)
-
-  pub read-refused : (number : ℕ) → 0 ∷ number ∷ 0 ∷ 0 ∷ [] ≡ placeNumbers a block → Reads (0 ∷ number ∷ 0 ∷ []) out
+  pub read-refused : (number : ℕ) → 0 ∷ number ∷ 0 ∷ 0 ∷ [] ≡ placeNumbers a block → Reads a block bytes out (0 ∷ number ∷ 0 ∷ []) out
   unfolding readRefusal readNumbers readOut
   read-refused number e = let h = refused-by-place a block number e in by-number number (h .0) (h .1)
     where
-      by-number : (n : ℕ) → blockRefusal a block ≡ n → n ≢ 0 → Reads (0 ∷ n ∷ 0 ∷ []) out
+      by-number : (n : ℕ) → blockRefusal a block ≡ n → n ≢ 0 → Reads a block bytes out (0 ∷ n ∷ 0 ∷ []) out
       by-number zero r h = absurd (h refl)
       by-number (suc n) r h = (rw r, rw (r, ne-eqb (suc n) 0 h))
 
-  pub read-served : (stripe member : ℕ) (numbers left : List ℕ) → PlacedAt a block stripe member → Serves a stripe member bytes out numbers left → Reads numbers left
+  pub read-served : (stripe member : ℕ) (numbers left : List ℕ) → PlacedAt a block stripe member → Serves a stripe member bytes out numbers left → Reads a block bytes out numbers left
   unfolding readRefusal readNumbers readOut
   read-served stripe member numbers left p s =
       let r = p .taken in
@@ -147,7 +143,7 @@ module _ (a : Array) (block : ℕ) (bytes out : List ℕ) where
     own = record { taken = taken; in-stripe = refl; on-member = refl }
 
     -- a good block is served as it is stored, whatever the other members hold
-    pub read-stored : storedGood a (stripeOf a block) (memberOf a block) bytes ≡ true → Reads (1 ∷ 0 ∷ 0 ∷ []) (dataOf (blockOf bytes (memberOf a block)))
+    pub read-stored : storedGood a (stripeOf a block) (memberOf a block) bytes ≡ true → Reads a block bytes out (1 ∷ 0 ∷ 0 ∷ []) (dataOf (blockOf bytes (memberOf a block)))
     read-stored good =
         let s = stripeOf a block in
         let m = memberOf a block in
@@ -155,14 +151,14 @@ module _ (a : Array) (block : ℕ) (bytes out : List ℕ) where
 
     module _ (bad : storedGood a (stripeOf a block) (memberOf a block) bytes ≡ false) where
       pub read-rebuilt : ((m : ℕ) → m < a .members → m ≢ memberOf a block → storedGood a (stripeOf a block) m bytes ≡ true)
-          → Reads (1 ∷ 0 ∷ 1 ∷ []) (othersData (a .members) (memberOf a block) bytes)
+          → Reads a block bytes out (1 ∷ 0 ∷ 1 ∷ []) (othersData (a .members) (memberOf a block) bytes)
       read-rebuilt others =
           let s = stripeOf a block in
           let m = memberOf a block in
           let made = othersData (a .members) m bytes in
           read-served s m (1 ∷ 0 ∷ 1 ∷ []) made own (serve-rebuilt a s m bytes out long room bad made (good-others a s m bytes others) refl)
 
-      pub read-damaged : (k : ℕ) → k < a .members → k ≢ memberOf a block → storedGood a (stripeOf a block) k bytes ≡ false → Reads (0 ∷ 9 ∷ 0 ∷ []) out
+      pub read-damaged : (k : ℕ) → k < a .members → k ≢ memberOf a block → storedGood a (stripeOf a block) k bytes ≡ false → Reads a block bytes out (0 ∷ 9 ∷ 0 ∷ []) out
       read-damaged k h other too =
           let s = stripeOf a block in
           let m = memberOf a block in

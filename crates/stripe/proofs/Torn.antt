@@ -17,17 +17,18 @@ use Rattle.crc.specs.Crc.{bits, bitsOf, bitStep, feed, Bytes}
 use Rattle.crc.specs.Guard.{run, guard}
 use Rattle.crc.proofs.Joined.{run-joined}
 use Rattle.layout.specs.Places.{ownerRefusal}
+use Rattle.layout.specs.Ranges.{Sound}
 use Rattle.layout.specs.declared.Array.{Array}
-use Rattle.layout.proofs.Ranges.{Sound, sound-place}
+use Rattle.layout.proofs.Ranges.{sound-place}
 use Rattle.tag.specs.Blocks.{dataLength, blockLength, dataOf}
 use Rattle.tag.specs.Tags.{good, tagged}
 use Rattle.tag.proofs.Numbers.{bytes-joined}
 use Rattle.tag.proofs.Tagged.{length-tagged, data-of-tagged, tagged-good, bytes-tagged}
 use Rattle.verdict.specs.Verdicts.{combinedGuards, quickNumbers}
-use Rattle.verdict.proofs.Verdicts.{FirstNonzero}
+use Rattle.verdict.specs.Flags.{FirstNonzero}
 use Rattle.verdict.proofs.Quick.{sound-quick, quick-fits, quick-differs}
 use Rattle.stripe.specs.Tables.{joined}
-use Rattle.stripe.specs.Stripes.{stripeLength, blockOf, memberData, othersData}
+use Rattle.stripe.specs.Stripes.{stripeLength, blockOf, memberData, othersData, Whole}
 use Rattle.stripe.specs.Jobs.{rebuildRefusal, rebuilt}
 use Rattle.stripe.specs.Verdicts.{storedGuard, scrubBlocks}
 use Rattle.stripe.proofs.Tables.{table-ext}
@@ -37,7 +38,7 @@ use Rattle.stripe.proofs.Rebuilds.{rebuild-others}
 use Rattle.stripe.proofs.Parity.{all-with-others}
 use Rattle.stripe.proofs.Restores.{rebuilt-data, rebuilt-good}
 use Rattle.stripe.proofs.Scrubs.{blocks-torn}
-use Rattle.stripe.proofs.Quick.{Whole, bytes-zeros, guard-zeros, guards-combined}
+use Rattle.stripe.proofs.Quick.{bytes-zeros, guard-zeros, guards-combined}
 
 abbrev pub bench : Array
 bench = record { members = 3; stripes = 1; volume = 7 }

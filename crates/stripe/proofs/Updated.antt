@@ -23,11 +23,11 @@ use Rattle.tag.specs.Blocks.{dataOf}
 use Rattle.tag.specs.Tags.{tagged}
 use Rattle.tag.proofs.Tagged.{length-data, length-tagged, data-of-tagged, tagged-good}
 use Rattle.stripe.specs.Stripes.{blockOf, memberData}
-use Rattle.stripe.specs.Jobs.{withBlock, storedGood, replaceRefusal, replaced, updateRefusal, updateBytes}
+use Rattle.stripe.specs.Jobs.{withBlock, storedGood, replaceRefusal, replaced, updateRefusal, updateBytes, Reads}
 use Rattle.stripe.proofs.Tables.{length-table, getD-table}
 use Rattle.stripe.proofs.Rows.{length-span}
 use Rattle.stripe.proofs.Blocks.{block-written, block-kept}
-use Rattle.stripe.proofs.Served.{Reads, read-stored}
+use Rattle.stripe.proofs.Served.{read-stored}
 use Rattle.stripe.proofs.Updates.{parity-sound, replaceable, Inside, inside, length-moved}
 
 -- ---- the members' data, one block written

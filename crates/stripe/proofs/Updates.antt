@@ -24,6 +24,7 @@ use Rattle.tag.specs.Tags.{tagged}
 use Rattle.tag.proofs.Tagged.{length-data}
 use Rattle.stripe.specs.Stripes.{stripeLength, blockOf}
 use Rattle.stripe.specs.Jobs.{unlessRefused, withBlock, storedGood, replaceRefusal, replaced, updateRefusal, updateBytes}
+use Rattle.stripe.specs.Accepted.{Replaceable}
 use Rattle.stripe.proofs.Rows.{length-span}
 use Rattle.stripe.proofs.Served.{lent-data, filled-with-data, refused-by-place, PlacedAt}
 
@@ -61,13 +62,7 @@ module _ (a : Array) (stripe member new : ℕ) (bytes : List ℕ) where
       replace-taken h p = replace-by-flags true true h p
 
   -- and back: nothing is refused
-  pub record Replaceable : Type 0 where
-    pub long : length bytes ≡ stripeLength a
-    pub size : new ≡ 512
-    pub own-good : storedGood a stripe member bytes ≡ true
-    pub parity-good : storedGood a stripe (parityMember a stripe) bytes ≡ true
-
-  pub replaceable : replaceRefusal a stripe member new bytes ≡ 0 → Replaceable
+  pub replaceable : replaceRefusal a stripe member new bytes ≡ 0 → Replaceable a stripe member new bytes
   unfolding replaceRefusal
   replaceable e =
       let lengths = eqb (length bytes) (stripeLength a) && eqb new 512 in

@@ -1,6 +1,7 @@
 -- The jobs on a whole stripe: for each its refusal number, its answer in numbers, and what every lent buffer holds afterwards.
 -- At a refusal a buffer holds what it held. Assumes nothing.
 use Prim.Native.Nat.{ℕ, _*_}
+use mathlib.Core.Path.{_≡_}
 use mathlib.Core.Bool.{Bool, not, cond, _&&_, _||_}
 use mathlib.Core.List.{List, [], _∷_}
 use lib.Dec.{eqb}
@@ -31,15 +32,6 @@ withBlock bytes member block = sets bytes (blockLength * member) block
 unfoldable pub sealRefusal : Array → ℕ → ℕ → ℕ → ℕ
 sealRefusal a stripe dataBytes stripeBytes =
     after (stripeRefusal a stripe) (refuse (not (eqb dataBytes (dataLength * dataMembers a) && eqb stripeBytes (stripeLength a))) 6 0)
-
--- a data member's block, from its part of the data
-abbrev pub dataBlock : Array → ℕ → List ℕ → ℕ → List ℕ
-dataBlock a stripe bytes member = tagged a stripe member (part dataLength bytes (indexAt a stripe member))
-
--- a stripe with the blocks of its data members written, and the parity's block as it was
-unfoldable pub dataWritten : Array → ℕ → List ℕ → List ℕ → List ℕ
-dataWritten a stripe bytes old =
-    joined (table (a .members) (λ m. cond (isParity a stripe m) (blockOf old m) (dataBlock a stripe bytes m)))
 
 -- the parity of the data, and the data that a member gets
 abbrev pub parityOf : Array → List ℕ → List ℕ
@@ -83,6 +75,10 @@ readingNumbers Rebuilt = 1 ∷ 0 ∷ 1 ∷ []
 unfoldable pub readOut : Array → ℕ → List ℕ → List ℕ → List ℕ
 readOut a block bytes old =
     unlessRefused (readRefusal a block bytes (length old)) (servedData a (stripeOf a block) (memberOf a block) bytes) old
+
+-- a read gives this answer, and leaves this in the buffer
+abbrev pub Reads : Array → ℕ → List ℕ → List ℕ → List ℕ → List ℕ → Type 0
+Reads a block bytes out numbers left = (numbers ≡ readNumbers a block bytes (length out)) × (left ≡ readOut a block bytes out)
 
 -- ---- rebuild: a member's block from the others, whatever stands in its place
 

@@ -1,13 +1,14 @@
 -- A stripe in memory: the blocks of its members, one after the other. Assumes nothing.
-use Prim.Native.Nat.{ℕ, _*_}
-use mathlib.Core.Bool.{Bool, true, false}
-use mathlib.Core.List.{List}
+use Prim.Native.Nat.{ℕ, _*_, _<_}
+use mathlib.Core.Path.{_≡_}
+use mathlib.Core.Bool.{Bool}
+use mathlib.Core.List.{List, []}
+use lib.ListN.{length, getD, replicate}
 use Rattle.xor.specs.Xors.{combination}
+use Rattle.crc.specs.Crc.{Bytes}
 use Rattle.layout.specs.declared.Array.{Array}
 use Rattle.tag.specs.Blocks.{dataLength, blockLength, dataOf}
 use Rattle.tag.specs.Tags.{good}
-use Rattle.tag.specs.declared.Checked.{Checked}
-use Rattle.tag.specs.declared.Checked.the-variants.{Refused, Good, Guard, Application, Reference}
 use Rattle.stripe.specs.Tables.{table, others, all, part}
 
 -- how many bytes a stripe has
@@ -26,17 +27,19 @@ memberData n bytes = table n (λ m. dataOf (blockOf bytes m))
 abbrev pub goodMembers : Array → ℕ → List ℕ → List Bool
 goodMembers a stripe bytes = table (a .members) (λ m. good a stripe m (blockOf bytes m))
 
--- a check's answer is that the block is good
-abbrev pub saysGood : Checked → Bool
-saysGood (Refused number) = false
-saysGood Good = true
-saysGood (Guard f e) = false
-saysGood (Application f e) = false
-saysGood (Reference f e) = false
-
 -- every member but one is good, and what their data combine to
 unfoldable pub othersGood : Array → ℕ → ℕ → List ℕ → Bool
 othersGood a stripe member bytes = all (others member (goodMembers a stripe bytes))
 
 unfoldable pub othersData : ℕ → ℕ → List ℕ → List ℕ
 othersData n member bytes = combination dataLength (others member (memberData n bytes))
+
+-- parity is right: the data of all n members combine to zero
+abbrev pub Parity : ℕ → List ℕ → Type 0
+Parity n bytes = combination dataLength (memberData n bytes) ≡ replicate dataLength 0
+
+-- whole blocks of bytes, as many as the array has members
+pub record Whole (a : Array) (blocks : List (List ℕ)) : Type 0 where
+  pub all-there : length blocks ≡ a .members
+  pub long : (i : ℕ) → i < length blocks → length (getD blocks i []) ≡ blockLength
+  pub bytes : (i : ℕ) → Bytes (getD blocks i [])

@@ -1,14 +1,15 @@
 -- The verdict of a scrub, as a function of a stripe's summary, and the full scrub: the verdict of its whole blocks. Assumes nothing.
-use Prim.Native.Nat.{ℕ}
-use mathlib.Core.Bool.{Bool, not}
-use mathlib.Core.List.{List, []}
+use Prim.Native.Nat.{ℕ, _<_}
+use mathlib.Core.Path.{_≡_}
+use mathlib.Core.Bool.{Bool, true, false, not}
+use mathlib.Core.List.{List, [], _∷_}
 use lib.Dec.{eqb}
 use lib.ListN.{length, getD}
 use Rattle.layout.specs.Answers.{refuse, after, answer}
 use Rattle.layout.specs.Arrays.{stripeRefusal}
 use Rattle.layout.specs.declared.Array.{Array}
 use Rattle.tag.specs.Blocks.{tagOf}
-use Rattle.tag.specs.Tags.{found, due, fits, bad}
+use Rattle.tag.specs.Tags.{found, due, fits}
 use Rattle.verdict.specs.Verdicts.{nonzero, judged}
 use Rattle.stripe.specs.Tables.{table}
 use Rattle.stripe.specs.Stripes.{stripeLength, blockOf}
@@ -30,16 +31,24 @@ verdict a stripe s = judged (badMembers a stripe s) (tornPlaces s)
 abbrev pub scrubBlocks : Array → ℕ → List (List ℕ) → List ℕ
 scrubBlocks a stripe blocks = verdict a stripe (summaryOf t10 blocks)
 
--- which members of a stripe in memory are bad
-unfoldable pub badBlocks : Array → ℕ → List ℕ → List Bool
-badBlocks a stripe bytes = table (a .members) (λ m. bad a stripe m (blockOf bytes m))
-
 unfoldable pub scrubRefusal : Array → ℕ → ℕ → ℕ
 scrubRefusal a stripe stripeBytes = after (stripeRefusal a stripe) (refuse (not (eqb stripeBytes (stripeLength a))) 6 0)
 
 unfoldable pub scrubNumbers : Array → ℕ → List ℕ → List ℕ
 scrubNumbers a stripe bytes =
     answer (scrubRefusal a stripe (length bytes)) (scrubBlocks a stripe (table (a .members) (blockOf bytes)))
+
+-- ---- what a scrub is proved to tell
+
+-- the answer that a stripe is clean: done, no refusal, no bad member, no torn place
+abbrev pub clean : List ℕ
+clean = 1 ∷ 0 ∷ 0 ∷ 0 ∷ 0 ∷ []
+
+-- f fails at m, and holds at each place below
+pub record FirstFailing (f : ℕ → Bool) (n m : ℕ) : Type 0 where
+  pub inside : m < n
+  pub fails : f m ≡ false
+  pub holds-below : (k : ℕ) → k < m → f k ≡ true
 
 -- ---- what the quick scrub is given
 

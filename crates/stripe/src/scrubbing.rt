@@ -5,7 +5,8 @@ use verdict::Scrubbed;
 ghost use mathlib.Core.Path.{_≡_};
 ghost use lib.ListN.{length};
 ghost use Rattle.verdict.specs.Verdicts.{count, lowest, scrubbedNumbers};
-ghost use Rattle.stripe.specs.Verdicts.{badBlocks, scrubRefusal, scrubNumbers};
+ghost use Rattle.stripe.specs.Verdicts.{scrubRefusal, scrubNumbers};
+ghost use Rattle.stripe.specs.Steps.{badBlocks};
 
 // The bad members of a stripe: the lowest of them, and how many they are.
 struct BadMembers {

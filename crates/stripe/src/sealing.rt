@@ -1,13 +1,14 @@
 // A whole stripe made from its data.
 ghost use mathlib.Core.Path.{_≡_};
-ghost use Prim.Native.Nat.{_+_, _*_, _≤_};
+ghost use Prim.Native.Nat.{_+_, _*_};
 ghost use lib.ListN.{length};
 ghost use mathlib.Core.Bool.{cond};
 ghost use Rattle.crc.specs.Blocks.{guardsOf};
 ghost use Rattle.layout.specs.Arrays.{dataMembers, stripeRefusal};
 ghost use Rattle.layout.specs.Places.{ownerRefusal, isParity};
 ghost use Rattle.stripe.specs.Stripes.{stripeLength};
-ghost use Rattle.stripe.specs.Jobs.{withBlock, dataBlock, dataWritten, sealRefusal, sealBytes};
+ghost use Rattle.stripe.specs.Jobs.{withBlock, sealRefusal, sealBytes};
+ghost use Rattle.stripe.specs.Steps.{dataBlock, dataWritten};
 use crate::combined;
 use crate::write_block;
 use layout::Array;

@@ -18,9 +18,8 @@ use Rattle.layout.proofs.Numbers.{owner-refused, owner-of-parity, owner-of-data
 use Rattle.layout.proofs.Bijection.{owned-sound}
 use Rattle.layout.proofs.Blocks.{lowest-sound, block-small}
 use Rattle.layout.proofs.Injective.{owned-injective}
-use Rattle.tag.specs.Tags.{applicationDue, referenceDue, due, dueAt}
+use Rattle.tag.specs.Tags.{applicationDue, referenceDue, due, dueAt, Fit}
 use Rattle.tag.specs.declared.Fields.{Fields}
-use Rattle.tag.proofs.Tags.{Fit}
 
 -- the fields due by an owner, as the code has them
 abbrev pub dueTo : Array → ℕ → Owned → Fields

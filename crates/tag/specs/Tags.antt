@@ -1,6 +1,6 @@
 -- The tag of a block: guard, application tag and reference tag, in this order; which are due at a place, and the check of a block.
 -- Assumes nothing.
-use Prim.Native.Nat.{ℕ, _+_}
+use Prim.Native.Nat.{ℕ, _+_, _^_, _<_}
 use mathlib.Core.Bool.{Bool, not, cond, _&&_}
 use mathlib.Core.List.{List, [], _∷_, _++_}
 use lib.Dec.{leb, eqb}
@@ -14,6 +14,12 @@ use Rattle.tag.specs.Blocks.{tagLength, blockLength, dataOf, tagOf}
 use Rattle.tag.specs.declared.Fields.{Fields}
 use Rattle.tag.specs.declared.Checked.{Checked}
 use Rattle.tag.specs.declared.Checked.the-variants.{Refused, Good, Guard, Application, Reference}
+
+-- the fields fit their bytes
+pub record Fit (f : Fields) : Type 0 where
+  pub guard-fits : f .guard < 2 ^ 16
+  pub application-fits : f .application < 2 ^ 16
+  pub reference-fits : f .reference < 2 ^ 32
 
 -- the eight bytes of three fields, and the fields in a tag's bytes
 unfoldable pub tagBytes : Fields → List ℕ

@@ -9,16 +9,7 @@ use native.Mathlib.Omega.{arith}
 use lib.ListN.{length, getD, drop, length-drop, drop-of-length-le}
 use lib.Seq.{drop-cons}
 use Rattle.verdict.specs.Verdicts.{count, lowest}
-
--- no flag holds
-abbrev pub NoFlag : List Bool → Type 0
-NoFlag flags = (i : ℕ) → getD flags i false ≡ false
-
--- the flag at a place holds, and none below it does
-pub record First (flags : List Bool) (at : ℕ) : Type 0 where
-  pub inside : at < length flags
-  pub holds : getD flags at false ≡ true
-  pub none-below : (i : ℕ) → i < at → getD flags i false ≡ false
+use Rattle.verdict.specs.Flags.{NoFlag, First}
 
 -- ---- the count
 

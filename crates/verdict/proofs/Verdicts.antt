@@ -10,7 +10,8 @@ use lib.Dec.{ltb, eqb}
 use lib.ListN.{length, getD, replicate, length-map, length-replicate, getD-replicate, List·getD-map}
 use lib.Seq.{ext-getD}
 use Rattle.verdict.specs.Verdicts.{count, lowest, nonzero, judgedBy, judged}
-use Rattle.verdict.proofs.Flags.{NoFlag, First, count-none, none-count, lowest-first, first-lowest, first-counted, lowest-inside, lowest-past}
+use Rattle.verdict.specs.Flags.{NoFlag, First, FirstNonzero}
+use Rattle.verdict.proofs.Flags.{count-none, none-count, lowest-first, first-lowest, first-counted, lowest-inside, lowest-past}
 
 -- ---- of flags
 
@@ -94,12 +95,6 @@ module _ (member bads : ℕ) (torn : List Bool) where
   judged-by-clean e h = rw (e, lowest-past torn h)
 
 -- ---- of combined bytes
-
--- the byte at a place is not zero, and each below it is
-pub record FirstNonzero (bytes : List ℕ) (place : ℕ) : Type 0 where
-  pub inside : place < length bytes
-  pub not-zero : getD bytes place 0 ≢ 0
-  pub zero-below : (k : ℕ) → k < place → getD bytes k 0 ≡ 0
 
 pub zeros-at : (n k : ℕ) → getD (replicate {A = ℕ} n 0) k 0 ≡ 0
 zeros-at zero k = refl

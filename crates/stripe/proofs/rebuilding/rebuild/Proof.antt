@@ -1,6 +1,6 @@
 -- `stripe::rebuilding::rebuild` meets its contract.
 -- Assumes nothing.
-use mathlib.Core.Path.{_≡_, refl, sym, ap, _∙_}
+use mathlib.Core.Path.{_≡_, sym, ap, _∙_}
 use mathlib.Core.List.{List}
 use Prim.Native.Nat.{ℕ}
 use native.Mathlib.Omega.{arith}
@@ -10,8 +10,9 @@ use Rattle.tag.specs.Tags.{tagged}
 use Rattle.layout.proofs.Ranges.{place-sound}
 use Rattle.stripe.specs.Stripes.{othersData}
 use Rattle.stripe.specs.Jobs.{withBlock, rebuilt}
+use Rattle.stripe.specs.Accepted.{Sources}
 use Rattle.stripe.proofs.Rows.{length-othersData}
-use Rattle.stripe.proofs.Rebuilds.{Sources, rebuild-sources, rebuild-kept, rebuild-done}
+use Rattle.stripe.proofs.Rebuilds.{rebuild-sources, rebuild-kept, rebuild-done}
 use Rattle.stripe.proofs.Guards.{rebuilt-guard}
 use borrow.Author.Needs.{needs}
 use Rattle.stripe.proofs.rebuilding.rebuild.Statement.{statement}

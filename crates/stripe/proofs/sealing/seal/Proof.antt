@@ -1,14 +1,15 @@
 -- `stripe::sealing::seal` meets its contract.
 -- Assumes nothing.
-use mathlib.Core.Path.{_≡_, refl, sym, ap, _∙_}
-use Prim.Native.Nat.{ℕ, _+_, _*_, _≤_, _<_}
+use mathlib.Core.Path.{_≡_, sym, ap, _∙_}
+use Prim.Native.Nat.{_<_}
 use native.Mathlib.Omega.{arith}
 use lib.ListN.{length}
 use Rattle.layout.proofs.Ranges.{stripe-sound, sound-place}
 use Rattle.layout.proofs.Members.{parity-below}
 use Rattle.stripe.specs.Stripes.{stripeLength}
+use Rattle.stripe.specs.Accepted.{Fitting}
 use Rattle.stripe.proofs.Rows.{length-othersData}
-use Rattle.stripe.proofs.Seals.{Fitting, seal-fitting, seal-kept, seal-done, length-written, parity-guard, sealed-by-calls}
+use Rattle.stripe.proofs.Seals.{seal-fitting, seal-kept, seal-done, length-written, parity-guard, sealed-by-calls}
 use borrow.Author.Needs.{needs}
 use Rattle.stripe.proofs.sealing.seal.Statement.{statement}
 use Rattle.stripe.proofs.sealing.seal.Tie as tie
