@@ -1,4 +1,5 @@
 pub mod Tables
+pub mod Figures
 pub mod Puts
 pub mod Rows
 pub mod Blocks
@@ -16,6 +17,7 @@ pub mod Injective
 pub mod Verdicts
 pub mod Scrubs
 pub mod Quick
+pub mod StoredGuards
 pub mod Guards
 pub mod Torn
 pub mod Clean

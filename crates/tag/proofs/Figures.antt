@@ -1,0 +1,64 @@
+-- Tags byte by byte, computed from the definitions, and which bytes of a block each field is: the order of the fields, the order of their
+-- bytes and the parity's mark are told here in figures, which no definition shares. Assumes nothing.
+use mathlib.Core.Path.{_≡_, refl}
+use mathlib.Core.List.{List, [], _∷_}
+use Prim.Native.Nat.{ℕ, _+_, _*_}
+use native.Mathlib.Omega.{arith}
+use lib.ListN.{length, getD}
+use lib.Seq.{drop-drop}
+use Rattle.layout.specs.Places.{parityMember, lowestBlock, blockAt, indexAt, referenceOf}
+use Rattle.layout.specs.declared.Array.{Array}
+use Rattle.tag.specs.Numbers.{bytesOf}
+use Rattle.tag.specs.Blocks.{blockLength, tagOf}
+use Rattle.tag.specs.Tags.{tagBytes, found, applicationDue, referenceDue, due, firstWrong}
+use Rattle.tag.specs.declared.Fields.{Fields}
+use Rattle.tag.proofs.Numbers.{take-elements, number-of-two, number-of-four}
+
+-- ---- the sealed stripe of the outline: three members, volume 7, stripe 0; its parity, then its two blocks
+
+abbrev three : Array
+three = record { members = 3; stripes = 1; volume = 7 }
+
+pub sealed-tags : (tagBytes (due three 0 0 0x176E) ≡ 0x17 ∷ 0x6E ∷ 0x80 ∷ 0x07 ∷ 0x00 ∷ 0x00 ∷ 0x00 ∷ 0x00 ∷ [])
+    × (tagBytes (due three 0 1 0x8BB7) ≡ 0x8B ∷ 0xB7 ∷ 0x00 ∷ 0x07 ∷ 0x00 ∷ 0x00 ∷ 0x00 ∷ 0x00 ∷ [])
+    × (tagBytes (due three 0 2 0x9CD9) ≡ 0x9C ∷ 0xD9 ∷ 0x00 ∷ 0x07 ∷ 0x00 ∷ 0x00 ∷ 0x00 ∷ 0x01 ∷ [])
+unfolding tagBytes due applicationDue referenceDue referenceOf lowestBlock blockAt indexAt parityMember bytesOf
+sealed-tags = (refl, refl, refl)
+
+-- ---- far out: five members, stripe 65,536, whose parity is on member 1
+
+abbrev five : Array
+five = record { members = 5; stripes = 268435456; volume = 0 }
+
+pub far-parity : tagBytes (due five 65536 1 0) ≡ 0x00 ∷ 0x00 ∷ 0x80 ∷ 0x00 ∷ 0x00 ∷ 0x04 ∷ 0x00 ∷ 0x00 ∷ []
+unfolding tagBytes due applicationDue referenceDue referenceOf lowestBlock blockAt indexAt parityMember bytesOf
+far-parity = refl
+
+-- ---- a whole block: bytes 512 and 513 are its guard, 514 and 515 its application tag, 516 to 519 its reference tag, each with the highest first
+
+module _ (block : List ℕ) (long : length block ≡ blockLength) where
+  pub guard-stands : found (tagOf block) .guard ≡ getD block 512 0 * 256 + getD block 513 0
+  unfolding found tagOf
+  guard-stands = rw (take-elements block 512 0 2 (omega arith)) (number-of-two (getD block 512 0) (getD block 513 0))
+
+  pub application-stands : found (tagOf block) .application ≡ getD block 514 0 * 256 + getD block 515 0
+  unfolding found tagOf
+  application-stands = rw (drop-drop 2 512 block, take-elements block 514 0 2 (omega arith)) (number-of-two (getD block 514 0) (getD block 515 0))
+
+  pub reference-stands : found (tagOf block) .reference ≡ (getD block 516 0 * 256 + getD block 517 0) * 65536 + (getD block 518 0 * 256 + getD block 519 0)
+  unfolding found tagOf
+  reference-stands =
+      rw (drop-drop 4 512 block, take-elements block 516 0 4 (omega arith))
+      (number-of-four (getD block 516 0) (getD block 517 0) (getD block 518 0) (getD block 519 0))
+
+-- ---- which field a check names first: 1 guard, 2 application tag, 3 reference tag; then what was found, then what was due
+
+abbrev fields : ℕ → ℕ → ℕ → Fields
+fields guard application reference = record { guard = guard; application = application; reference = reference }
+
+pub wrong-fields : (firstWrong (fields 5 6 7) (fields 1 2 3) ≡ 1 ∷ 5 ∷ 1 ∷ [])
+    × (firstWrong (fields 1 6 7) (fields 1 2 3) ≡ 2 ∷ 6 ∷ 2 ∷ [])
+    × (firstWrong (fields 1 2 7) (fields 1 2 3) ≡ 3 ∷ 7 ∷ 3 ∷ [])
+    × (firstWrong (fields 1 2 3) (fields 1 2 3) ≡ 0 ∷ 0 ∷ 0 ∷ [])
+unfolding firstWrong
+wrong-fields = (refl, refl, refl, refl)
