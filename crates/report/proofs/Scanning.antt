@@ -18,9 +18,10 @@ use Rattle.stripe.proofs.Tables.{length-table}
 use Rattle.scan.specs.declared.Scan.{Scan}
 use Rattle.scan.specs.History.{finish, answerTo}
 use Rattle.scan.specs.Scans.{startRefusal, startState, startWork, pieceState, pieceWork, finishNumbers}
+use Rattle.scan.specs.Holding.{held, Holds}
 use Rattle.scan.proofs.Refusals.{verdicts-even}
 use Rattle.scan.proofs.Machine.{call-answered}
-use Rattle.scan.proofs.States.{held, Holds, finish-numbers-are, piece-holds, work-long}
+use Rattle.scan.proofs.States.{finish-numbers-are, piece-holds, work-long}
 use Rattle.scan.proofs.Starts.{start-holds}
 use Rattle.scan.proofs.Feeding.{finish-answers}
 use Rattle.report.specs.Reports.{verdictOf}

@@ -27,15 +27,9 @@ use Rattle.stripe.specs.Verdicts.{verdict, scrubBlocks, storedGuard}
 use Rattle.stripe.specs.Stripes.{Whole}
 use Rattle.stripe.proofs.Quick.{fits-where-zero, differs-within}
 use Rattle.scan.specs.History.{Call, piece, finish, begun, kept, pieceNumber, finishNumber}
+use Rattle.scan.specs.CutAnywhere.{historyOf, ByteCalls}
 use Rattle.scan.proofs.Finishes.{all-whole}
 use Rattle.scan.proofs.Simulation.{held-follows-history}
-use Rattle.scan.proofs.Lasting.{historyOf}
-
--- what is handed in are bytes
-abbrev pub ByteCalls : List Call → Type 0
-ByteCalls [] = Unit
-ByteCalls (piece member bytes ∷ calls) = Bytes bytes × ByteCalls calls
-ByteCalls (finish ∷ calls) = ByteCalls calls
 
 module _ (a : Array) (stripe : ℕ) where
   grown-bytes : (history : List (List ℕ)) (member : ℕ) (bytes : List ℕ) → ((i : ℕ) → Bytes (getD history i [])) → Bytes bytes

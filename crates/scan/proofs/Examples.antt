@@ -14,9 +14,7 @@ use Rattle.stripe.specs.Formats.{Format, t10, whole, dataIn, tagIn, Summary, su
 use Rattle.stripe.specs.Verdicts.{scrubBlocks}
 use Rattle.scan.specs.History.{Call, piece, finish, begun, answerTo, kept, answers}
 use Rattle.scan.specs.Scans.{dataOfPiece, tagOfPiece, positions, registers, tags, buffer, heldSummary}
-use Rattle.scan.proofs.Follows.{fresh}
-use Rattle.scan.proofs.Machine.{scrubOf, heldAnswer, heldAfter}
-use Rattle.scan.proofs.Simulation.{heldAnswers}
+use Rattle.scan.specs.Machines.{fresh, scrubOf, heldAnswer, heldAfter, heldAnswers}
 use Rattle.scan.proofs.Refusals.{refused-verdict}
 use Rattle.scan.proofs.Feeding.{bytes-answers}
 

@@ -14,8 +14,8 @@ use lib.Seq.{getD-take, getD-drop, ext-getD}
 use Rattle.stripe.specs.Tables.{table, all, span}
 use Rattle.stripe.specs.Formats.{Format, whole, tagIn, registerOf, summaryOf}
 use Rattle.scan.specs.Scans.{heldSummary}
+use Rattle.scan.specs.Holding.{Held, Follows}
 use Rattle.scan.proofs.Joins.{table-map, map-map}
-use Rattle.scan.proofs.Follows.{Held, Follows}
 use Rattle.scan.proofs.Pieces.{apart}
 
 -- ---- flags over the positions of a history none of whose members has more than a block

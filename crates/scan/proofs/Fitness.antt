@@ -34,6 +34,7 @@ use Rattle.scan.specs.Scans.{
   pieceWork,
   finishRefusal,
 }
+use Rattle.scan.specs.Rows.{FitState, Accepted}
 use Rattle.scan.specs.Steps.{nonePast, allWhole}
 
 -- ---- flags over the first n elements of a list
@@ -100,11 +101,6 @@ module _ (a : Array) (stripe : ℕ) (w : List ℕ) where
 
 -- ---- a fit state
 
-pub record FitState (s : Scan) : Type 0 where
-  pub numbers : stripeRefusal (s .array) (s .stripe) ≡ 0
-  pub few : s .array .members ≤ 16
-  pub near : (i : ℕ) → i < s .array .members → getD (s .at) i 0 ≤ 520
-
 module _ (s : Scan) where
   pub numbers-unfit : stripeRefusal (s .array) (s .stripe) ≢ 0 → fit s ≡ false
   unfolding fit
@@ -130,12 +126,6 @@ module _ (s : Scan) where
 none-of : (t : Bool) (n rest : ℕ) → refuse t (suc n) rest ≡ 0 → (t ≡ false) × (rest ≡ 0)
 none-of true n rest e = absurd (omega arith)
 none-of false n rest e = (refl, e)
-
-pub record Accepted (s : Scan) (member pieceBytes workBytes : ℕ) : Type 0 where
-  pub state : FitState s
-  pub here : member < s .array .members
-  pub long : workBytes ≡ 512
-  pub room : getD (s .at) member 0 + pieceBytes ≤ 520
 
 module _ (s : Scan) (member : ℕ) where
   pub accepted : (n k : ℕ) → pieceRefusal s member n k ≡ 0 → Accepted s member n k

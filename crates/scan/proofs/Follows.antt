@@ -1,5 +1,4 @@
--- What is held of a stripe follows from the history: each member's position, register and tag bytes are what its bytes so far
--- make them, and the work buffer is the combination of all data so far. It holds when nothing has been taken.
+-- What is held follows from the history when nothing has been taken.
 -- Assumes nothing.
 use mathlib.Core.Path.{_≡_, refl, sym, ap, _∙_}
 use mathlib.Core.List.{List, [], _∷_, map}
@@ -9,36 +8,12 @@ use native.Mathlib.Decide.{decLt}
 use native.Mathlib.Omega.{arith}
 use lib.ListN.{length, getD, take, replicate, length-replicate, getD-replicate, List·getD-eq-default}
 use lib.Seq.{take-nil, drop-nil}
-use Rattle.xor.specs.Xors.{addAll, combination}
+use Rattle.xor.specs.Xors.{addAll}
 use Rattle.xor.proofs.Lists.{xors-nil}
-use Rattle.stripe.specs.Formats.{Format, whole, dataIn, tagIn, registerOf}
+use Rattle.stripe.specs.Formats.{Format, dataIn, tagIn, registerOf}
 use Rattle.scan.specs.History.{begun}
-
--- what is held between the calls
-pub record Held (F : Format) : Type 0 where
-  pub at : List ℕ
-  pub register : List (F .Register)
-  pub tag : List ℕ
-  pub work : List ℕ
-
--- of n members, whose history this is; the lists may be longer than n members need, and a tag byte that has not come is zero
-pub record Follows (F : Format) (n : ℕ) (h : Held F) (history : List (List ℕ)) : Type 0 where
-  pub members : length history ≡ n
-  pub at-long : n ≤ length (h .at)
-  pub register-long : n ≤ length (h .register)
-  pub tag-long : F .tagLength * n ≤ length (h .tag)
-  pub fits : (i : ℕ) → length (getD history i []) ≤ whole F
-  pub at-is : take n (h .at) ≡ map length history
-  pub register-is : take n (h .register) ≡ map (registerOf F) history
-  pub tag-is : (i : ℕ) → i < n → (j : ℕ) → j < F .tagLength → getD (h .tag) (F .tagLength * i + j) 0 ≡ getD (tagIn F (getD history i [])) j 0
-  pub work-is : h .work ≡ combination (F .dataLength) (map (dataIn F) history)
-
--- ---- nothing taken yet
-
--- room for `size` members
-abbrev pub fresh : (F : Format) → ℕ → Held F
-fresh F size =
-    record { at = replicate size 0; register = replicate size (F .start); tag = replicate (F .tagLength * size) 0; work = replicate (F .dataLength) 0 }
+use Rattle.scan.specs.Holding.{Follows}
+use Rattle.scan.specs.Machines.{fresh}
 
 map-replicate : {A B : Type 0} (f : A → B) (n : ℕ) (x : A) → map f (replicate n x) ≡ replicate n (f x)
 map-replicate f zero x = refl

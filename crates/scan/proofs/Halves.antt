@@ -6,7 +6,7 @@ use mathlib.Core.List.{List, [], _∷_, _++_, append-assoc}
 use Prim.Native.Nat.{ℕ, zero, suc, _+_, _≤_, _<_, zero-le}
 use native.Mathlib.Decide.{decLt}
 use native.Mathlib.Omega.{arith}
-use lib.ListN.{length, getD, take, drop, replicate, length-replicate, length-take, length-drop, take-append-drop, replicate-append-replicate, List·getD-eq-default}
+use lib.ListN.{length, getD, replicate, length-replicate, length-take, length-drop, take-append-drop, replicate-append-replicate, List·getD-eq-default}
 use Rattle.layout.specs.Answers.{answer}
 use Rattle.layout.specs.declared.Array.{Array}
 use Rattle.stripe.specs.Formats.{t10, whole}
@@ -14,25 +14,10 @@ use Rattle.stripe.specs.Verdicts.{scrubBlocks}
 use Rattle.scan.specs.declared.Scan.{Scan}
 use Rattle.scan.specs.History.{Call, finish, begun, answers}
 use Rattle.scan.specs.Scans.{startRefusal, startState, startWork}
-use Rattle.scan.specs.Runs.{Run}
-use Rattle.scan.proofs.Feeding.{fed, grown, fed-answers, finish-answers}
+use Rattle.scan.specs.Runs.{ScanRun}
+use Rattle.scan.specs.Feeds.{fed, firsts, seconds, wholes, halves}
+use Rattle.scan.proofs.Feeding.{grown, fed-answers, finish-answers}
 use Rattle.scan.proofs.Theorem.{run-answers-as-history}
-
--- each block up to its member's cut, and from there on
-abbrev pub firsts : (ℕ → ℕ) → List (List ℕ) → List (List ℕ)
-firsts cut [] = []
-firsts cut (b ∷ blocks) = take (cut 0) b ∷ firsts (λ i. cut (suc i)) blocks
-
-abbrev pub seconds : (ℕ → ℕ) → List (List ℕ) → List (List ℕ)
-seconds cut [] = []
-seconds cut (b ∷ blocks) = drop (cut 0) b ∷ seconds (λ i. cut (suc i)) blocks
-
--- the calls: whole blocks in member order, or all first parts and then all second parts; and a finish
-abbrev pub wholes : List (List ℕ) → List Call
-wholes blocks = fed 0 blocks ++ (finish ∷ [])
-
-abbrev pub halves : (ℕ → ℕ) → List (List ℕ) → List Call
-halves cut blocks = fed 0 (firsts cut blocks) ++ (fed 0 (seconds cut blocks) ++ (finish ∷ []))
 
 length-firsts : (cut : ℕ → ℕ) (blocks : List (List ℕ)) → length (firsts cut blocks) ≡ length blocks
 length-firsts cut [] = refl
@@ -105,11 +90,11 @@ module _ (a : Array) (stripe : ℕ) (old : List ℕ) (accepted : startRefusal a 
     {s last : Scan} {w left : List ℕ} (started : s ≡ startState a stripe (length old)) (cleared : w ≡ startWork a stripe old)
     (blocks : List (List ℕ)) (many : length blocks ≡ a .members) (full : (i : ℕ) → i < a .members → length (getD blocks i []) ≡ whole t10)
     {xs : List (List ℕ)} where
-  pub one-piece-each : Run s w (wholes blocks) xs last left → xs ≡ replicate (a .members) (0 ∷ []) ++ (answer 0 (scrubBlocks a stripe blocks) ∷ [])
+  pub one-piece-each : ScanRun s w (wholes blocks) xs last left → xs ≡ replicate (a .members) (0 ∷ []) ++ (answer 0 (scrubBlocks a stripe blocks) ∷ [])
   one-piece-each run =
       run-answers-as-history a stripe old accepted started cleared run ∙ wholes-answered (whole t10) (a .members) (scrubBlocks a stripe) blocks many full
 
-  pub two-halves : (cut : ℕ → ℕ) → Run s w (halves cut blocks) xs last left
+  pub two-halves : (cut : ℕ → ℕ) → ScanRun s w (halves cut blocks) xs last left
       → xs ≡ replicate (a .members + a .members) (0 ∷ []) ++ (answer 0 (scrubBlocks a stripe blocks) ∷ [])
   two-halves cut run =
       run-answers-as-history a stripe old accepted started cleared run ∙ halves-answered (whole t10) (a .members) (scrubBlocks a stripe) blocks many full cut

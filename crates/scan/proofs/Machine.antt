@@ -1,5 +1,5 @@
--- The scan over any format, as a machine: what it answers to a call and what it holds after, by the functions that the promises of
--- the calls name. From what follows from a history it answers as that history does, and what it then holds follows again.
+-- One call of the machine of specs/Machines: from what follows from a history it answers as that history does, and what it then holds
+-- follows again.
 -- Assumes nothing.
 use mathlib.Core.Path.{_≡_, refl, ap}
 use mathlib.Core.Bool.{Bool, true, false, not, cond}
@@ -8,36 +8,17 @@ use Prim.Native.Nat.{ℕ, _-_, _≤_, _<_}
 use native.Mathlib.Omega.{arith}
 use lib.Dec.{ltb, leb, eqb}
 use borrow.Author.Tests.{ltb-true, ltb-false, eqb-true}
-use lib.ListN.{length, getD, take, set}
+use lib.ListN.{length, getD, set}
 use Rattle.layout.specs.Answers.{refuse, answer}
 use Rattle.stripe.specs.Tables.{all}
 use Rattle.stripe.specs.Formats.{Format, whole, Summary, summaryOf}
 use Rattle.scan.specs.History.{Call, piece, finish, pieceNumber, finishNumber, answerTo, kept}
 use Rattle.scan.specs.Scans.{heldSummary}
-use Rattle.scan.proofs.Follows.{Held, Follows}
-use Rattle.scan.proofs.Pieces.{taken, position-is, piece-follows}
+use Rattle.scan.specs.Holding.{Held, Follows}
+use Rattle.scan.specs.Machines.{taken, scrubOf, heldPieceNumber, heldFinishNumber, heldAnswer, heldAfter}
+use Rattle.scan.proofs.Pieces.{position-is, piece-follows}
 use Rattle.scan.proofs.Refusals.{refused-alike}
 use Rattle.scan.proofs.Finishes.{flags-are, summary-held}
-
--- the full scrub of whole blocks, for a verdict on their summary
-abbrev pub scrubOf : (F : Format) → (Summary → List ℕ) → List (List ℕ) → List ℕ
-scrubOf F judge blocks = judge (summaryOf F blocks)
-
-module _ (F : Format) (n : ℕ) where
-  abbrev pub heldPieceNumber : Held F → ℕ → List ℕ → ℕ
-  heldPieceNumber h m bytes = refuse (not (ltb m n)) 5 (refuse (ltb (whole F - getD (h .at) m 0) (length bytes)) 7 0)
-
-  abbrev pub heldFinishNumber : Held F → ℕ
-  heldFinishNumber h = refuse (not (all (map (λ p. eqb p (whole F)) (take n (h .at))))) 8 0
-
-module _ (F : Format) (n : ℕ) (judge : Summary → List ℕ) where
-  unfoldable pub heldAnswer : Held F → Call → List ℕ
-  heldAnswer h (piece m bytes) = heldPieceNumber F n h m bytes ∷ []
-  heldAnswer h finish = answer (heldFinishNumber F n h) (judge (heldSummary F n (h .register) (h .tag) (h .work)))
-
-  unfoldable pub heldAfter : Held F → Call → Held F
-  heldAfter h (piece m bytes) = cond (eqb (heldPieceNumber F n h m bytes) 0) (taken F h m bytes) h
-  heldAfter h finish = h
 
 -- ---- numbers
 

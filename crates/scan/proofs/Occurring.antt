@@ -17,7 +17,7 @@ use Rattle.scan.specs.declared.Scan.{Scan}
 use Rattle.scan.specs.declared.Taken.{Taken}
 use Rattle.scan.specs.History.{Call, piece, finish}
 use Rattle.scan.specs.Scans.{heldSummary, pieceRefusal, pieceState, pieceWork, finishRefusal, finishNumbers}
-use Rattle.scan.specs.Runs.{Run, ended, pieced, finished}
+use Rattle.scan.specs.Runs.{Ran, ended, pieced, finished}
 use Rattle.scan.proofs.Refusals.{refused-verdict}
 
 record Judged (bads torn : List Bool) : Type 0 where
@@ -51,13 +51,6 @@ some-finish s w = go (finishRefusal s (length w)) refl
           given = Refused (suc number);
           same = rw e (sym (refused-verdict (s .array) (s .stripe) number (heldSummary t10 (s .array .members) (s .register) (s .tag) w)));
         }
-
--- a run of these calls
-pub record Ran (s : Scan) (w : List ℕ) (calls : List Call) : Type 0 where
-  pub xs : List (List ℕ)
-  pub last : Scan
-  pub left : List ℕ
-  pub run : Run s w calls xs last left
 
 pub every-list-runs : (calls : List Call) (s : Scan) (w : List ℕ) → Ran s w calls
 every-list-runs [] s w = record { xs = []; last = s; left = w; run = ended }

@@ -12,20 +12,11 @@ use Rattle.xor.specs.Xors.{xors, addAll, combination}
 use Rattle.xor.proofs.Combination.{addAll-set}
 use Rattle.stripe.specs.Formats.{Format, whole, dataIn, tagIn, registerOf}
 use Rattle.scan.specs.Scans.{tagOfPiece, positions, registers, tags, buffer}
+use Rattle.scan.specs.Holding.{Held, Follows}
+use Rattle.scan.specs.Machines.{taken}
 use Rattle.scan.proofs.Joins.{map-set, getD-map-in}
 use Rattle.scan.proofs.Stores.{getD-sets-before, getD-sets-past, sets-grow}
 use Rattle.scan.proofs.Parts.{tag-joined, tag-place, tag-fits, register-joined, work-joined}
-use Rattle.scan.proofs.Follows.{Held, Follows}
-
--- what a piece makes of what is held
-abbrev pub taken : (F : Format) → Held F → ℕ → List ℕ → Held F
-taken F h m bytes =
-    record {
-      at = positions F (h .at) m bytes;
-      register = registers F (h .at) (h .register) m bytes;
-      tag = tags F (h .at) (h .tag) m bytes;
-      work = buffer F (h .at) (h .work) m bytes;
-    }
 
 -- the tags of two members lie apart
 pub apart : (size i m : ℕ) → i < m → size * i + size ≤ size * m

@@ -7,7 +7,7 @@ use native.Mathlib.Omega.{arith}
 use borrow.Author.Tests.{lt-ltb, le-ltb}
 use Rattle.scan.specs.declared.Part.{Part}
 use Rattle.scan.specs.declared.Part.the-variants.{Data, Guard, Application, Reference, Past}
-use Rattle.scan.specs.Steps.{partAt}
+use Rattle.scan.specs.Parts.{partAt}
 
 -- what a part says of the data still to come, of a tag byte's place, and of the place within the part
 abbrev pub roomOf : Part → ℕ

@@ -7,22 +7,19 @@ use Prim.Native.Nat.{ℕ, _≤_}
 use lib.ListN.{length}
 use Rattle.stripe.specs.Formats.{Format, whole, Summary}
 use Rattle.scan.specs.History.{Call, begun, kept, answers}
-use Rattle.scan.proofs.Follows.{Held, Follows, fresh, fresh-follows}
-use Rattle.scan.proofs.Machine.{scrubOf, heldAnswer, heldAfter, call-answered, call-follows}
+use Rattle.scan.specs.Holding.{Held, Follows}
+use Rattle.scan.specs.Machines.{fresh, scrubOf, heldAfter, heldAnswers}
+use Rattle.scan.proofs.Follows.{fresh-follows}
+use Rattle.scan.proofs.Machine.{call-answered, call-follows}
 
 module _ (F : Format) (n : ℕ) (judge : Summary → List ℕ) where
-  -- the machine's answers to a list of calls
-  abbrev pub heldAnswers : Held F → List Call → List (List ℕ)
-  heldAnswers h [] = []
-  heldAnswers h (c ∷ calls) = heldAnswer F n judge h c ∷ heldAnswers (heldAfter F n judge h c) calls
-
   calls-follow : (calls : List Call) {h : Held F} {history : List (List ℕ)} → Follows F n h history
       → Follows F n (foldl (heldAfter F n judge) h calls) (foldl (kept (whole F) n (scrubOf F judge)) history calls)
   calls-follow [] t = t
   calls-follow (c ∷ calls) {h} {history} t = calls-follow calls (call-follows F n judge h history t c)
 
   calls-answered : ((x y : Summary) → length (judge x) ≡ length (judge y)) → (calls : List Call) {h : Held F} {history : List (List ℕ)}
-      → Follows F n h history → heldAnswers h calls ≡ answers (whole F) n (scrubOf F judge) history calls
+      → Follows F n h history → heldAnswers F n judge h calls ≡ answers (whole F) n (scrubOf F judge) history calls
   calls-answered even [] t = refl
   calls-answered even (c ∷ calls) {h} {history} t =
       ap₂ (λ (x : List ℕ) (xs : List (List ℕ)). x ∷ xs) (call-answered F n judge h history t even c) (calls-answered even calls (call-follows F n judge h history t c))
@@ -34,5 +31,5 @@ module _ (F : Format) (n : ℕ) (judge : Summary → List ℕ) where
 
   -- where every verdict is equally many numbers
   pub machine-answers-as-history : ((x y : Summary) → length (judge x) ≡ length (judge y)) → (size : ℕ) → n ≤ size → (calls : List Call)
-      → heldAnswers (fresh F size) calls ≡ answers (whole F) n (scrubOf F judge) (begun n) calls
+      → heldAnswers F n judge (fresh F size) calls ≡ answers (whole F) n (scrubOf F judge) (begun n) calls
   machine-answers-as-history even size h calls = calls-answered even calls (fresh-follows F size n h)

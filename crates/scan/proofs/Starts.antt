@@ -12,8 +12,8 @@ use Rattle.stripe.specs.Formats.{t10}
 use Rattle.scan.specs.declared.Scan.{Scan}
 use Rattle.scan.specs.History.{begun}
 use Rattle.scan.specs.Scans.{startRefusal, emptyScan, startState, startWork}
+use Rattle.scan.specs.Holding.{Holds}
 use Rattle.scan.proofs.Follows.{fresh-follows}
-use Rattle.scan.proofs.States.{Holds}
 
 after-none : (x y : ℕ) → after x y ≡ 0 → x ≡ 0
 after-none zero y e = refl

@@ -16,18 +16,10 @@ use Rattle.stripe.specs.Verdicts.{verdict, scrubBlocks}
 use Rattle.scan.specs.declared.Scan.{Scan}
 use Rattle.scan.specs.History.{piece, finish, kept}
 use Rattle.scan.specs.Scans.{fit, pieceRefusal, advanced, pieceState, pieceWork, finishRefusal, finishNumbers, buffer}
-use Rattle.scan.proofs.Follows.{Held, Follows}
-use Rattle.scan.proofs.Pieces.{taken}
+use Rattle.scan.specs.Holding.{Follows, held, Holds}
+use Rattle.scan.specs.Machines.{taken, heldPieceNumber, heldAnswer, heldAfter}
 use Rattle.scan.proofs.Finishes.{positions-fit}
-use Rattle.scan.proofs.Machine.{heldPieceNumber, heldAnswer, heldAfter, call-follows}
-
-abbrev pub held : Scan → List ℕ → Held t10
-held s w = record { at = s .at; register = s .register; tag = s .tag; work = w }
-
-pub record Holds (a : Array) (stripe : ℕ) (s : Scan) (w : List ℕ) (history : List (List ℕ)) : Type 0 where
-  pub array : s .array ≡ a
-  pub place : s .stripe ≡ stripe
-  pub follows : Follows t10 (a .members) (held s w) history
+use Rattle.scan.proofs.Machine.{call-follows}
 
 module _ (a : Array) (stripe : ℕ) (sound : stripeRefusal a stripe ≡ 0) (s : Scan) (w : List ℕ) (history : List (List ℕ)) (t : Holds a stripe s w history) where
   pub is-fit : fit s ≡ true

@@ -9,10 +9,12 @@ use Rattle.stripe.specs.Formats.{t10, whole}
 use Rattle.stripe.specs.Verdicts.{verdict, scrubBlocks}
 use Rattle.scan.specs.declared.Scan.{Scan}
 use Rattle.scan.specs.History.{Call, piece, finish, kept, answerTo, answers}
-use Rattle.scan.specs.Runs.{Run, ended, pieced, finished}
+use Rattle.scan.specs.Runs.{ScanRun, ended, pieced, finished}
+use Rattle.scan.specs.Holding.{held, Holds}
+use Rattle.scan.specs.Machines.{heldAnswer}
 use Rattle.scan.proofs.Refusals.{verdicts-even}
-use Rattle.scan.proofs.Machine.{heldAnswer, call-answered}
-use Rattle.scan.proofs.States.{held, Holds, piece-refusal-is, finish-numbers-are, piece-holds}
+use Rattle.scan.proofs.Machine.{call-answered}
+use Rattle.scan.proofs.States.{piece-refusal-is, finish-numbers-are, piece-holds}
 
 module _ (a : Array) (stripe : ℕ) (sound : stripeRefusal a stripe ≡ 0) where
   answered : {s : Scan} {w : List ℕ} {history : List (List ℕ)} → Holds a stripe s w history → (c : Call)
@@ -20,14 +22,14 @@ module _ (a : Array) (stripe : ℕ) (sound : stripeRefusal a stripe ≡ 0) where
   answered {s} {w} {history} t = call-answered t10 (a .members) (verdict a stripe) (held s w) history (t .follows) (verdicts-even a stripe)
 
   pub run-holds : {s last : Scan} {w left : List ℕ} {calls : List Call} {xs : List (List ℕ)} (history : List (List ℕ))
-      → Holds a stripe s w history → Run s w calls xs last left → Holds a stripe last left (foldl (kept (whole t10) (a .members) (scrubBlocks a stripe)) history calls)
+      → Holds a stripe s w history → ScanRun s w calls xs last left → Holds a stripe last left (foldl (kept (whole t10) (a .members) (scrubBlocks a stripe)) history calls)
   unfolding kept
   run-holds history t ended = t
   run-holds history t (pieced {s = s} {w = w} {member = m} {bytes = bytes} r e f g run) = run-holds _ (piece-holds a stripe sound s w history t m bytes f g) run
   run-holds history t (finished r e run) = run-holds history t run
 
   pub run-answers : {s last : Scan} {w left : List ℕ} {calls : List Call} {xs : List (List ℕ)} (history : List (List ℕ))
-      → Holds a stripe s w history → Run s w calls xs last left → xs ≡ answers (whole t10) (a .members) (scrubBlocks a stripe) history calls
+      → Holds a stripe s w history → ScanRun s w calls xs last left → xs ≡ answers (whole t10) (a .members) (scrubBlocks a stripe) history calls
   unfolding kept heldAnswer
   run-answers history t ended = refl
   run-answers history t (pieced {s = s} {w = w} {member = m} {bytes = bytes} r e f g run) =

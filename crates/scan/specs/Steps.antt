@@ -1,22 +1,14 @@
--- What the steps of the calls give: the kind of a byte by its position in a block, tests of the first positions, and the members
--- that are bad by what a state holds. Assumes nothing.
-use Prim.Native.Nat.{ℕ, _-_, _*_}
-use mathlib.Core.Bool.{Bool, not, cond}
+-- Steps of the code, cited by promises of its private functions: no theorem's statement rests on these. Tests of the first positions,
+-- and the members that are bad by what a state holds. Assumes nothing.
+use Prim.Native.Nat.{ℕ, _*_}
+use mathlib.Core.Bool.{Bool, not}
 use mathlib.Core.List.{List, map}
-use lib.Dec.{leb, ltb, eqb}
+use lib.Dec.{leb, eqb}
 use lib.ListN.{getD, take}
 use Rattle.tag.specs.Tags.{found, due, fits}
 use Rattle.stripe.specs.Tables.{table, all, span}
 use Rattle.stripe.specs.Formats.{t10, whole}
 use Rattle.scan.specs.declared.Scan.{Scan}
-use Rattle.scan.specs.declared.Part.{Part}
-use Rattle.scan.specs.declared.Part.the-variants.{Data, Guard, Application, Reference, Past}
-
--- data, then the three fields of the tag, each byte with its place in its own part
-unfoldable pub partAt : ℕ → Part
-partAt p =
-    cond (ltb p 512) (Data p)
-    (cond (ltb p 514) (Guard (p - 512)) (cond (ltb p 516) (Application (p - 514)) (cond (ltb p 520) (Reference (p - 516)) Past)))
 
 -- of the first n positions none is past the end of a block; all stand there
 abbrev pub nonePast : ℕ → List ℕ → Bool

@@ -1,7 +1,7 @@
 // The bytes of a block by their position: what each is, and where it goes.
 ghost use mathlib.Core.Path.{_≡_};
 ghost use Prim.Native.Nat.{_-_, min};
-ghost use Rattle.scan.specs.Steps.{partAt};
+ghost use Rattle.scan.specs.Parts.{partAt};
 use crate::Part;
 use tag::DATA;
 use tag::TAG;
