@@ -4,13 +4,14 @@ use mathlib.Core.Path.{_≡_, refl, sym, ap, _∙_}
 use mathlib.Core.Bool.{Bool, true, false, not, cond, _&&_}
 use mathlib.Core.List.{List, [], _∷_, map}
 use mathlib.Core.Logic.{_≢_}
-use Prim.Native.Nat.{ℕ, zero, suc, _+_, _-_, _≤_, _<_}
-use native.Mathlib.Nat.{le-of-suc-le-suc, not-suc-le-zero}
+use Prim.Native.Nat.{ℕ, zero, suc, _+_, _≤_, _<_, zero-le, suc-le-suc}
+use native.Mathlib.Nat.{le-of-suc-le-suc, not-suc-le-zero, zero-lt-suc}
 use native.Mathlib.Numerals.{add-one}
+use native.Mathlib.Decide.{decLt}
 use native.Mathlib.Omega.{arith}
-use borrow.Author.Tests.{leb-true, ltb-true, ltb-false, eqb-true, ne-eqb}
-use lib.Dec.{leb, ltb, eqb}
-use lib.ListN.{length, getD, take, drop, replicate, length-take, drop-of-length-le}
+use borrow.Author.Tests.{leb-true, eqb-true, ne-eqb}
+use lib.Dec.{leb, eqb}
+use lib.ListN.{length, getD, take, drop, replicate, length-take, drop-of-length-le, List·getD-eq-default}
 use lib.Seq.{drop-cons, getD-take}
 use Rattle.layout.specs.Answers.{refuse, after}
 use Rattle.layout.specs.Arrays.{stripeRefusal}
@@ -34,7 +35,7 @@ use Rattle.scan.specs.Scans.{
   pieceWork,
   finishRefusal,
 }
-use Rattle.scan.specs.Rows.{FitState, Accepted}
+use Rattle.scan.specs.Rows.{FitState}
 use Rattle.scan.specs.Steps.{nonePast, allWhole}
 
 -- ---- flags over the first n elements of a list
@@ -55,12 +56,18 @@ both : (s t : Bool) → (s && t) ≡ true → (s ≡ true) × (t ≡ true)
 both true t e = (refl, e)
 both false t e = (e, (cc))
 
--- a flag that holds of every element, and of zero, holds at each place
-all-at : (f : ℕ → Bool) → f 0 ≡ true → (l : List ℕ) (n i : ℕ) → all (map f (take n l)) ≡ true → i < n → f (getD l i 0) ≡ true
-all-at f z l zero i e h = absurd (not-suc-le-zero h)
-all-at f z [] (suc n) i e h = z
-all-at f z (x ∷ l) (suc n) zero e h = both (f x) (all (map f (take n l))) e .0
-all-at f z (x ∷ l) (suc n) (suc i) e h = all-at f z l n i (both (f x) (all (map f (take n l))) e .1) (le-of-suc-le-suc h)
+-- a flag holds of all of them exactly if it holds at each place of the list below n
+pub all-first : (f : ℕ → Bool) (l : List ℕ) (n : ℕ) → all (map f (take n l)) ≡ true → (i : ℕ) → i < n → i < length l → f (getD l i 0) ≡ true
+all-first f l zero e i h k = absurd (not-suc-le-zero h)
+all-first f [] (suc n) e i h k = absurd (not-suc-le-zero k)
+all-first f (x ∷ l) (suc n) e zero h k = both (f x) (all (map f (take n l))) e .0
+all-first f (x ∷ l) (suc n) e (suc i) h k = all-first f l n (both (f x) (all (map f (take n l))) e .1) i (le-of-suc-le-suc h) (le-of-suc-le-suc k)
+
+pub first-all : (f : ℕ → Bool) (l : List ℕ) (n : ℕ) → ((i : ℕ) → i < n → i < length l → f (getD l i 0) ≡ true) → all (map f (take n l)) ≡ true
+first-all f l zero h = refl
+first-all f [] (suc n) h = refl
+first-all f (x ∷ l) (suc n) h =
+    rw (h 0 (zero-lt-suc n) (zero-lt-suc (length l))) (first-all f l n (λ i a b. h (suc i) (suc-le-suc a) (suc-le-suc b)))
 
 -- ---- a choice by a refusal number
 
@@ -118,51 +125,32 @@ module _ (s : Scan) where
       record {
         numbers = sound;
         few = stripe-sound (s .array) (s .stripe) sound .array .many;
-        near = λ i k. leb-true (getD (s .at) i 0) 520 (all-at (λ p. leb p 520) refl (s .at) (s .array .members) i (h .1) k);
+        near = λ i k. near i k (decLt i (length (s .at))) (h .1);
       }
+    where
+      near : (i : ℕ) → i < s .array .members → Dec (i < length (s .at)) → nonePast (s .array .members) (s .at) ≡ true → getD (s .at) i 0 ≤ 520
+      near i k (yes l) e = leb-true (getD (s .at) i 0) 520 (all-first (λ p. leb p 520) (s .at) (s .array .members) e i k l)
+      near i k (no l) e = rw (List·getD-eq-default (s .at) 0 {n = i} (omega arith)) zero-le
 
 -- ---- piece
 
-none-of : (t : Bool) (n rest : ℕ) → refuse t (suc n) rest ≡ 0 → (t ≡ false) × (rest ≡ 0)
-none-of true n rest e = absurd (omega arith)
-none-of false n rest e = (refl, e)
+module _ (s : Scan) (member : ℕ) (bytes w : List ℕ) where
+  pub taken-in : pieceRefusal s member (length bytes) (length w) ≡ 0 → (s′ : Scan) (w′ : List ℕ)
+      → s′ ≡ advanced s member bytes → w′ ≡ buffer t10 (s .at) w member bytes
+      → (s′ ≡ pieceState s member bytes (length w)) × (w′ ≡ pieceWork s member bytes w)
+  unfolding pieceState pieceWork
+  taken-in none s′ w′ e f = (
+    e ∙ sym (when-done (pieceRefusal s member (length bytes) (length w)) (advanced s member bytes) s none),
+    f ∙ sym (when-done (pieceRefusal s member (length bytes) (length w)) (buffer t10 (s .at) w member bytes) w none),
+  )
 
-module _ (s : Scan) (member : ℕ) where
-  pub accepted : (n k : ℕ) → pieceRefusal s member n k ≡ 0 → Accepted s member n k
-  unfolding pieceRefusal
-  accepted n k e =
-      let last = refuse (ltb (520 - getD (s .at) member 0) n) 7 0 in
-      let length-test = refuse (not (eqb k 512)) 6 last in
-      let fits = refuse-none (fit s) 3 (refuse (not (ltb member (s .array .members))) 5 length-test) e in
-      let member-known = refuse-none (ltb member (s .array .members)) 4 length-test (fits .1) in
-      let work-long = refuse-none (eqb k 512) 5 last (member-known .1) in
-      let short = none-of (ltb (520 - getD (s .at) member 0) n) 6 0 (work-long .1) in
-      let state = fit-state s (fits .0) in
-      let here = ltb-true member (s .array .members) (member-known .0) in
-      record {
-        state = state;
-        here = here;
-        long = eqb-true k 512 (work-long .0);
-        room = omega (arith, state .near member here, ltb-false (520 - getD (s .at) member 0) n (short .0));
-      }
-
-  module _ (bytes w : List ℕ) where
-    pub taken-in : pieceRefusal s member (length bytes) (length w) ≡ 0 → (s′ : Scan) (w′ : List ℕ)
-        → s′ ≡ advanced s member bytes → w′ ≡ buffer t10 (s .at) w member bytes
-        → (s′ ≡ pieceState s member bytes (length w)) × (w′ ≡ pieceWork s member bytes w)
-    unfolding pieceState pieceWork
-    taken-in none s′ w′ e f = (
-      e ∙ sym (when-done (pieceRefusal s member (length bytes) (length w)) (advanced s member bytes) s none),
-      f ∙ sym (when-done (pieceRefusal s member (length bytes) (length w)) (buffer t10 (s .at) w member bytes) w none),
-    )
-
-    pub piece-refused : pieceRefusal s member (length bytes) (length w) ≢ 0
-        → (s ≡ pieceState s member bytes (length w)) × (w ≡ pieceWork s member bytes w)
-    unfolding pieceState pieceWork
-    piece-refused some = (
-      sym (when-refused (pieceRefusal s member (length bytes) (length w)) (advanced s member bytes) s some),
-      sym (when-refused (pieceRefusal s member (length bytes) (length w)) (buffer t10 (s .at) w member bytes) w some),
-    )
+  pub piece-refused : pieceRefusal s member (length bytes) (length w) ≢ 0
+      → (s ≡ pieceState s member bytes (length w)) × (w ≡ pieceWork s member bytes w)
+  unfolding pieceState pieceWork
+  piece-refused some = (
+    sym (when-refused (pieceRefusal s member (length bytes) (length w)) (advanced s member bytes) s some),
+    sym (when-refused (pieceRefusal s member (length bytes) (length w)) (buffer t10 (s .at) w member bytes) w some),
+  )
 
 -- ---- finish
 

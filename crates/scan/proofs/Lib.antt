@@ -18,6 +18,7 @@ pub mod Halves
 pub mod Examples
 pub mod Ranges
 pub mod Fitness
+pub mod Rows
 pub mod Cuts
 pub mod Judging
 pub mod Beside

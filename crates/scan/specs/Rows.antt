@@ -1,8 +1,11 @@
--- What a fit state is, and a piece that is taken, in plain words. Assumes nothing.
+-- The rows of the table of refusals, for the calls of a scan: each number with its row's condition, in plain words, where no earlier row
+-- holds; 0 where none does. Assumes nothing.
 use mathlib.Core.Path.{_≡_}
+use mathlib.Core.Logic.{_≢_}
 use Prim.Native.Nat.{ℕ, _+_, _≤_, _<_}
 use lib.ListN.{getD}
 use Rattle.layout.specs.Arrays.{stripeRefusal}
+use Rattle.layout.specs.declared.Array.{Array}
 use Rattle.scan.specs.declared.Scan.{Scan}
 
 -- a fit state: its numbers break none of rows 1 to 3, so that its members are sixteen at most, and none of their positions is above 520
@@ -17,3 +20,28 @@ pub record Accepted (s : Scan) (member pieceBytes workBytes : ℕ) : Type 0 wher
   pub here : member < s .array .members
   pub long : workBytes ≡ 512
   pub room : getD (s .at) member 0 + pieceBytes ≤ 520
+
+-- every member stands at the end of its block
+abbrev pub AllWhole : Scan → Type 0
+AllWhole s = (i : ℕ) → i < s .array .members → getD (s .at) i 0 ≡ 520
+
+-- ---- the rows
+
+pub data StartRow (a : Array) (stripe workBytes : ℕ) : ℕ → Type 0 where
+  out-of-range : stripeRefusal a stripe ≢ 0 → StartRow a stripe workBytes (stripeRefusal a stripe)
+  other-length : stripeRefusal a stripe ≡ 0 → workBytes ≢ 512 → StartRow a stripe workBytes 6
+  done : stripeRefusal a stripe ≡ 0 → workBytes ≡ 512 → StartRow a stripe workBytes 0
+
+pub data PieceRow (s : Scan) (member pieceBytes workBytes : ℕ) : ℕ → Type 0 where
+  unfit : ¬ FitState s → PieceRow s member pieceBytes workBytes 4
+  no-member : FitState s → s .array .members ≤ member → PieceRow s member pieceBytes workBytes 5
+  other-length : FitState s → member < s .array .members → workBytes ≢ 512 → PieceRow s member pieceBytes workBytes 6
+  too-long : FitState s → member < s .array .members → workBytes ≡ 512 → 520 < getD (s .at) member 0 + pieceBytes
+      → PieceRow s member pieceBytes workBytes 7
+  done : Accepted s member pieceBytes workBytes → PieceRow s member pieceBytes workBytes 0
+
+pub data FinishRow (s : Scan) (workBytes : ℕ) : ℕ → Type 0 where
+  unfit : ¬ FitState s → FinishRow s workBytes 4
+  other-length : FitState s → workBytes ≢ 512 → FinishRow s workBytes 6
+  too-early : FitState s → workBytes ≡ 512 → ¬ AllWhole s → FinishRow s workBytes 8
+  done : FitState s → workBytes ≡ 512 → AllWhole s → FinishRow s workBytes 0

@@ -3,7 +3,8 @@ use mathlib.Core.Path.{sym, _∙_}
 use native.Mathlib.Omega.{arith}
 use borrow.Author.Needs.{needs}
 use lib.ListN.{length}
-use Rattle.scan.proofs.Fitness.{accepted, taken-in, piece-refused}
+use Rattle.scan.proofs.Fitness.{taken-in, piece-refused}
+use Rattle.scan.proofs.Rows.{accepted}
 use Rattle.scan.proofs.taking.piece.Statement.{statement}
 use Rattle.scan.proofs.taking.piece.Tie as tie
 
