@@ -3,22 +3,22 @@
 -- Assumes nothing.
 use mathlib.Core.Path.{_≡_, refl, sym, ap, _∙_}
 use mathlib.Core.Logic.{_≢_}
-use mathlib.Core.Bool.{Bool, true, false, not, cond}
+use mathlib.Core.Bool.{Bool, true, false, cond}
 use mathlib.Core.List.{List, [], _∷_, _++_, map, foldl}
-use Prim.Native.Nat.{ℕ, zero, suc, _≤_, _<_}
+use Prim.Native.Nat.{ℕ, zero, suc, _<_}
 use native.Mathlib.Nat.{le-antisymm}
 use native.Mathlib.Decide.{ℕ-discrete, decLt}
 use native.Mathlib.Omega.{arith}
 use lib.Dec.{leb, eqb, lit<}
 use lib.ListN.{length, getD, set, replicate}
 use lib.Seq.{getD-set-same, getD-set-other, set-out}
-use Rattle.xor.specs.Xors.{combination}
 use Rattle.crc.specs.Crc.{bitsOf, Bytes, Within}
 use Rattle.crc.specs.Guard.{guard}
+use Rattle.layout.specs.Answers.{answer}
 use Rattle.layout.specs.Ranges.{Sound}
 use Rattle.layout.specs.declared.Array.{Array}
 use Rattle.layout.proofs.Answers.{refuse-none}
-use Rattle.tag.specs.Blocks.{dataLength, dataOf}
+use Rattle.tag.specs.Blocks.{dataLength}
 use Rattle.tag.proofs.Numbers.{bytes-joined}
 use Rattle.verdict.specs.Verdicts.{quickNumbers}
 use Rattle.stripe.specs.Tables.{all}
@@ -26,8 +26,8 @@ use Rattle.stripe.specs.Formats.{t10, whole}
 use Rattle.stripe.specs.Verdicts.{verdict, scrubBlocks, storedGuard}
 use Rattle.stripe.specs.Stripes.{Whole}
 use Rattle.stripe.proofs.Quick.{fits-where-zero, differs-within}
-use Rattle.scan.specs.History.{Call, piece, finish, begun, kept, pieceNumber, finishNumber}
-use Rattle.scan.specs.CutAnywhere.{historyOf, ByteCalls}
+use Rattle.scan.specs.History.{Call, piece, finish, begun, pieceNumber, finishNumber, answerTo, kept, answers}
+use Rattle.scan.specs.CutAnywhere.{historyOf, ByteCalls, together, FoundNoneBad, CutAnywhere}
 use Rattle.scan.proofs.Finishes.{all-whole}
 use Rattle.scan.proofs.Simulation.{held-follows-history}
 
@@ -76,12 +76,56 @@ module _ (a : Array) (stripe : ℕ) where
   module _ (sound : Sound a) (calls : List Call) (bytes : ByteCalls calls)
       (accepted : finishNumber (whole t10) (a .members) (scrubBlocks a stripe) (historyOf a stripe calls) ≡ 0)
       (none-bad : getD (scrubBlocks a stripe (historyOf a stripe calls)) 0 0 ≢ 1) where
-    pub quick-fits-beside : combination dataLength (map dataOf (historyOf a stripe calls)) ≡ replicate dataLength 0
+    pub quick-fits-beside : together (historyOf a stripe calls) ≡ replicate dataLength 0
         → quickNumbers (map storedGuard (historyOf a stripe calls)) ≡ 1 ∷ 0 ∷ 0 ∷ 0 ∷ []
     quick-fits-beside = fits-where-zero a stripe (historyOf a stripe calls) sound (whole-history sound calls bytes accepted) none-bad
 
-    pub quick-differs-beside : combination dataLength (map dataOf (historyOf a stripe calls)) ≢ replicate dataLength 0
-        → Within 16 (bitsOf (combination dataLength (map dataOf (historyOf a stripe calls)))) (bitsOf (replicate dataLength 0))
-        → (guard (combination dataLength (map dataOf (historyOf a stripe calls))) ≢ 0)
-        × (quickNumbers (map storedGuard (historyOf a stripe calls)) ≡ 1 ∷ 0 ∷ 1 ∷ guard (combination dataLength (map dataOf (historyOf a stripe calls))) ∷ [])
+    pub quick-differs-beside : together (historyOf a stripe calls) ≢ replicate dataLength 0
+        → Within 16 (bitsOf (together (historyOf a stripe calls))) (bitsOf (replicate dataLength 0))
+        → (guard (together (historyOf a stripe calls)) ≢ 0)
+        × (quickNumbers (map storedGuard (historyOf a stripe calls)) ≡ 1 ∷ 0 ∷ 1 ∷ guard (together (historyOf a stripe calls)) ∷ [])
     quick-differs-beside = differs-within a stripe (historyOf a stripe calls) sound (whole-history sound calls bytes accepted) none-bad
+
+  -- ---- at a finish among the calls, from the answers that they got
+
+  answer-at : (history : List (List ℕ)) (before later : List Call)
+      → getD (answers (whole t10) (a .members) (scrubBlocks a stripe) history (before ++ (finish ∷ later))) (length before) []
+      ≡ answerTo (whole t10) (a .members) (scrubBlocks a stripe) (foldl (kept (whole t10) (a .members) (scrubBlocks a stripe)) history before) finish
+  answer-at history [] later = refl
+  answer-at history (c ∷ before) later = answer-at (kept (whole t10) (a .members) (scrubBlocks a stripe) history c) before later
+
+  bytes-before : (before later : List Call) → ByteCalls (before ++ later) → ByteCalls before
+  bytes-before [] later c = tt
+  bytes-before (piece member bytes ∷ before) later c = (c .0, bytes-before before later (c .1))
+  bytes-before (finish ∷ before) later c = bytes-before before later c
+
+  done-by : (number : ℕ) (v : List ℕ) (kind place count : ℕ) → answer number v ≡ 1 ∷ 0 ∷ kind ∷ place ∷ count ∷ []
+      → (number ≡ 0) × (getD v 0 0 ≡ kind)
+  done-by zero (k ∷ v) kind place count e = (refl, (cc))
+  done-by zero [] kind place count e = absurd (omega (arith, ap length e))
+  done-by (suc number) v kind place count e = absurd (omega (arith, ap (λ (l : List ℕ). getD l 0 0) e))
+
+  module _ (sound : Sound a) (calls : List Call) (xs : List (List ℕ))
+      (right : xs ≡ answers (whole t10) (a .members) (scrubBlocks a stripe) (begun (a .members)) calls) where
+    done-with : (before : List Call) (f : FoundNoneBad calls before xs)
+        → (finishNumber (whole t10) (a .members) (scrubBlocks a stripe) (historyOf a stripe before) ≡ 0)
+        × (getD (scrubBlocks a stripe (historyOf a stripe before)) 0 0 ≡ f .kind)
+    unfolding answerTo
+    done-with before f =
+        done-by (finishNumber (whole t10) (a .members) (scrubBlocks a stripe) (historyOf a stripe before)) (scrubBlocks a stripe (historyOf a stripe before))
+        (f .kind) (f .place) (f .count)
+        (sym (answer-at (begun (a .members)) before (f .later))
+        ∙ sym (ap (λ (l : List (List ℕ)). getD l (length before) [])
+        (right ∙ ap (answers (whole t10) (a .members) (scrubBlocks a stripe) (begun (a .members))) (f .there))) ∙ f .answer-is)
+
+    pub answers-cut-anywhere : CutAnywhere a stripe calls xs
+    answers-cut-anywhere =
+        record {
+          answered = right;
+          quick-fits = λ bytes before f.
+              let d = done-with before f in
+              quick-fits-beside sound before (bytes-before before (finish ∷ f .later) (rw (f .there) at bytes)) (d .0) (λ e. f .not-bad (sym (d .1) ∙ e));
+          quick-differs = λ bytes before f.
+              let d = done-with before f in
+              quick-differs-beside sound before (bytes-before before (finish ∷ f .later) (rw (f .there) at bytes)) (d .0) (λ e. f .not-bad (sym (d .1) ∙ e));
+        }

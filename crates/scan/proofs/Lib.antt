@@ -22,3 +22,4 @@ pub mod Rows
 pub mod Cuts
 pub mod Judging
 pub mod Beside
+pub mod Promised

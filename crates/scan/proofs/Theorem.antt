@@ -1,5 +1,6 @@
--- The theorem of the scan: in every run of the calls from an accepted start, each call's answer is the history's.
--- `ScanRun` is the relation of specs/Runs; the history, in specs/History, is kept from the calls alone.
+-- The theorem of the scan, over definitions: in every run of the calls from an accepted start, each call's answer is the history's.
+-- `ScanRun` is the relation of specs/Runs; the history, in specs/History, is kept from the calls alone. Promised.antt sets it on the
+-- code's own promises, with the quick scrub beside it: there demand 3 stands whole.
 -- Assumes nothing.
 use mathlib.Core.Path.{_≡_}
 use mathlib.Core.List.{List}

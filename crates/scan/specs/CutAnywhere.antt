@@ -1,11 +1,19 @@
--- The history of a scan after some calls, on the blocks of the product. Assumes nothing.
-use mathlib.Core.List.{List, [], _∷_, foldl}
+-- Demand 3 as a single claim about a list of calls and the answers that they got: however the blocks of a stripe are cut, the scan answers
+-- as the history does, and the quick scrub agrees beside it. Assumes nothing.
+use mathlib.Core.Path.{_≡_}
+use mathlib.Core.Logic.{_≢_}
+use mathlib.Core.List.{List, [], _∷_, _++_, map, foldl}
 use Prim.Native.Nat.{ℕ}
-use Rattle.crc.specs.Crc.{Bytes}
+use lib.ListN.{length, getD, replicate}
+use Rattle.xor.specs.Xors.{combination}
+use Rattle.crc.specs.Crc.{bitsOf, Bytes, Within}
+use Rattle.crc.specs.Guard.{guard}
 use Rattle.layout.specs.declared.Array.{Array}
+use Rattle.tag.specs.Blocks.{dataLength, dataOf}
+use Rattle.verdict.specs.Verdicts.{quickNumbers}
 use Rattle.stripe.specs.Formats.{t10, whole}
-use Rattle.stripe.specs.Verdicts.{scrubBlocks}
-use Rattle.scan.specs.History.{Call, piece, finish, begun, kept}
+use Rattle.stripe.specs.Verdicts.{scrubBlocks, storedGuard}
+use Rattle.scan.specs.History.{Call, piece, finish, begun, kept, answers}
 
 -- the history after calls: the bytes of each member that were taken
 abbrev pub historyOf : Array → ℕ → List Call → List (List ℕ)
@@ -16,3 +24,30 @@ abbrev pub ByteCalls : List Call → Type 0
 ByteCalls [] = Unit
 ByteCalls (piece member bytes ∷ calls) = Bytes bytes × ByteCalls calls
 ByteCalls (finish ∷ calls) = ByteCalls calls
+
+-- parity is right where the data of all blocks combine to zero; otherwise this is the parity difference
+abbrev pub together : List (List ℕ) → List ℕ
+together blocks = combination dataLength (map dataOf blocks)
+
+-- a finish among the calls, after those of `before`, whose answer is a verdict and not of bad members: done, no refusal, its kind
+pub record FoundNoneBad (calls before : List Call) (xs : List (List ℕ)) : Type 0 where
+  pub later : List Call
+  pub there : calls ≡ before ++ (finish ∷ later)
+  pub kind : ℕ
+  pub place : ℕ
+  pub count : ℕ
+  pub answer-is : getD xs (length before) [] ≡ 1 ∷ 0 ∷ kind ∷ place ∷ count ∷ []
+  pub not-bad : kind ≢ 1
+
+-- the three parts: every answer is the history's; and at every such finish the quick scrub of the stored guards fits where parity is
+-- right, and differs, by the guard of the parity difference, where that lies within sixteen successive bits
+pub record CutAnywhere (a : Array) (stripe : ℕ) (calls : List Call) (xs : List (List ℕ)) : Type 0 where
+  pub answered : xs ≡ answers (whole t10) (a .members) (scrubBlocks a stripe) (begun (a .members)) calls
+  pub quick-fits : ByteCalls calls → (before : List Call) → FoundNoneBad calls before xs
+      → together (historyOf a stripe before) ≡ replicate dataLength 0
+      → quickNumbers (map storedGuard (historyOf a stripe before)) ≡ 1 ∷ 0 ∷ 0 ∷ 0 ∷ []
+  pub quick-differs : ByteCalls calls → (before : List Call) → FoundNoneBad calls before xs
+      → together (historyOf a stripe before) ≢ replicate dataLength 0
+      → Within 16 (bitsOf (together (historyOf a stripe before))) (bitsOf (replicate dataLength 0))
+      → (guard (together (historyOf a stripe before)) ≢ 0)
+      × (quickNumbers (map storedGuard (historyOf a stripe before)) ≡ 1 ∷ 0 ∷ 1 ∷ guard (together (historyOf a stripe before)) ∷ [])
