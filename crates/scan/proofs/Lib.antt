@@ -23,3 +23,4 @@ pub mod Cuts
 pub mod Judging
 pub mod Beside
 pub mod Promised
+pub mod Figures
