@@ -74,6 +74,25 @@ static const uint8_t *block_of(const struct stripe *stripe, size_t member)
     return stripe->bytes + member * BLOCK_BYTES;
 }
 
+/* The calls that take the array's numbers, each once: the rest of the program hands over a stripe. */
+
+static struct irumbolai_check check_member(const struct stripe *stripe, size_t member)
+{
+    return irumbolai_check(stripe->members, stripe->stripes, stripe->volume, stripe->number, member,
+                           block_of(stripe, member), BLOCK_BYTES);
+}
+
+static struct irumbolai_verdict scrub(const struct stripe *stripe)
+{
+    return irumbolai_scrub(stripe->members, stripe->stripes, stripe->volume, stripe->number, stripe->bytes,
+                           stripe->length);
+}
+
+static struct irumbolai_taken start_scan(const struct stripe *stripe, uint8_t *work, size_t work_length)
+{
+    return irumbolai_start(stripe->members, stripe->stripes, stripe->volume, stripe->number, work, work_length);
+}
+
 /* The guard in the tag of a block, as it stands there: the highest byte comes first. */
 static uint16_t stored_guard(const uint8_t *block)
 {
@@ -86,8 +105,7 @@ static void show_member(const struct stripe *stripe, size_t member)
     static const char *const fields[] = {"", "guard", "application tag", "reference tag"};
     static const int digits[] = {0, 4, 4, 8};
     const uint8_t *block = block_of(stripe, member);
-    struct irumbolai_check check = irumbolai_check(stripe->members, stripe->stripes, stripe->volume, stripe->number,
-                                                   member, block, BLOCK_BYTES);
+    struct irumbolai_check check = check_member(stripe, member);
 
     printf("member %zu: guard stored %04X, due %04X: ", member, (unsigned)stored_guard(block),
            (unsigned)irumbolai_guard(block, DATA_BYTES));
@@ -128,8 +146,7 @@ static void show_quick(struct irumbolai_quick quick)
 static struct irumbolai_verdict scan(const struct stripe *stripe, size_t step)
 {
     uint8_t work[DATA_BYTES];
-    struct irumbolai_taken taken = irumbolai_start(stripe->members, stripe->stripes, stripe->volume, stripe->number,
-                                                   work, sizeof work);
+    struct irumbolai_taken taken = start_scan(stripe, work, sizeof work);
 
     for (size_t at = 0; at < BLOCK_BYTES && taken.refusal == 0; at += step) {
         size_t length = BLOCK_BYTES - at < step ? BLOCK_BYTES - at : step;
@@ -147,8 +164,7 @@ static struct irumbolai_verdict scan(const struct stripe *stripe, size_t step)
 /* Asks the library everything about a stripe. */
 static enum exit_code look_at(const struct stripe *stripe)
 {
-    struct irumbolai_verdict whole = irumbolai_scrub(stripe->members, stripe->stripes, stripe->volume, stripe->number,
-                                                     stripe->bytes, stripe->length);
+    struct irumbolai_verdict whole = scrub(stripe);
 
     printf("stripe %" PRIu64 " of %" PRIu64 ", members %zu, volume %u\n", stripe->number, stripe->stripes,
            stripe->members, (unsigned)stripe->volume);

@@ -52,6 +52,13 @@ mod c {
 // SAFETY, for every call: each pointer comes with the length of its own buffer, which is lent for the call alone,
 // and is not const only where the header lets the call write.
 
+/// A call on the array of this program, whose numbers go first, one by one. No call is handed them elsewhere.
+macro_rules! on_array {
+    ($call:ident, $($rest:expr),+) => {
+        unsafe { c::$call(MEMBERS, STRIPES, VOLUME, $($rest),+) }
+    };
+}
+
 pub fn guard(bytes: &[u8]) -> u16 {
     unsafe { c::irumbolai_guard(bytes.as_ptr(), bytes.len()) }
 }
@@ -69,35 +76,24 @@ pub fn join(a: u16, b: u16, length_of_b: u32) -> u16 {
 pub fn seal(stripe: u64, data: &[u8], bytes: &mut [u8]) -> u32 {
     let (from, from_length) = (data.as_ptr(), data.len());
     let (to, to_length) = (bytes.as_mut_ptr(), bytes.len());
-    unsafe {
-        c::irumbolai_seal(
-            MEMBERS,
-            STRIPES,
-            VOLUME,
-            stripe,
-            from,
-            from_length,
-            to,
-            to_length,
-        )
-    }
+    on_array!(irumbolai_seal, stripe, from, from_length, to, to_length)
 }
 
 /// Gives the refusal.
 pub fn rebuild(stripe: u64, member: usize, bytes: &mut [u8]) -> u32 {
     let (to, length) = (bytes.as_mut_ptr(), bytes.len());
-    unsafe { c::irumbolai_rebuild(MEMBERS, STRIPES, VOLUME, stripe, member, to, length) }
+    on_array!(irumbolai_rebuild, stripe, member, to, length)
 }
 
 pub fn scrub(stripe: u64, bytes: &[u8]) -> Verdict {
     let (from, length) = (bytes.as_ptr(), bytes.len());
-    verdict(unsafe { c::irumbolai_scrub(MEMBERS, STRIPES, VOLUME, stripe, from, length) })
+    verdict(on_array!(irumbolai_scrub, stripe, from, length))
 }
 
 /// A scan of a stripe, one piece for each of the blocks.
 pub fn scan<'a>(stripe: u64, blocks: impl Iterator<Item = &'a [u8]>, work: &mut [u8]) -> Verdict {
     let (to, to_length) = (work.as_mut_ptr(), work.len());
-    let mut taken = unsafe { c::irumbolai_start(MEMBERS, STRIPES, VOLUME, stripe, to, to_length) };
+    let mut taken = on_array!(irumbolai_start, stripe, to, to_length);
     for (member, block) in blocks.enumerate() {
         let (from, length) = (block.as_ptr(), block.len());
         taken = unsafe { c::irumbolai_piece(taken.state, member, from, length, to, to_length) };

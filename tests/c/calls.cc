@@ -22,6 +22,62 @@ static void due(const char *what, uint64_t found, uint64_t expected)
 
 #define DUE(found, expected) due(#found, found, expected)
 
+// The calls that take an array's numbers, each once: the tests hand over an array.
+
+struct Array {
+    size_t members;
+    uint64_t stripes;
+    uint8_t volume;
+};
+
+static struct irumbolai_place place_of(Array array, uint64_t block)
+{
+    return irumbolai_place(array.members, array.stripes, array.volume, block);
+}
+
+static struct irumbolai_owner owner_at(Array array, uint64_t stripe, size_t member)
+{
+    return irumbolai_owner(array.members, array.stripes, array.volume, stripe, member);
+}
+
+static struct irumbolai_check check(Array array, uint64_t stripe, size_t member, const Bytes &block)
+{
+    return irumbolai_check(array.members, array.stripes, array.volume, stripe, member, block.data(), block.size());
+}
+
+static uint32_t seal(Array array, uint64_t stripe, const Bytes &data, Bytes &bytes)
+{
+    return irumbolai_seal(array.members, array.stripes, array.volume, stripe, data.data(), data.size(), bytes.data(), bytes.size());
+}
+
+static struct irumbolai_read read_block(Array array, uint64_t block, const Bytes &bytes, Bytes &out)
+{
+    return irumbolai_read(array.members, array.stripes, array.volume, block, bytes.data(), bytes.size(), out.data(), out.size());
+}
+
+static uint32_t rebuild(Array array, uint64_t stripe, size_t member, Bytes &bytes)
+{
+    return irumbolai_rebuild(array.members, array.stripes, array.volume, stripe, member, bytes.data(), bytes.size());
+}
+
+static uint32_t update(Array array, uint64_t block, const Bytes &data, Bytes &bytes)
+{
+    return irumbolai_update(array.members, array.stripes, array.volume, block, data.data(), data.size(), bytes.data(), bytes.size());
+}
+
+static struct irumbolai_verdict scrub(Array array, uint64_t stripe, const Bytes &bytes)
+{
+    return irumbolai_scrub(array.members, array.stripes, array.volume, stripe, bytes.data(), bytes.size());
+}
+
+static struct irumbolai_taken start(Array array, uint64_t stripe, Bytes &work)
+{
+    return irumbolai_start(array.members, array.stripes, array.volume, stripe, work.data(), work.size());
+}
+
+// The array of the sealed stripe in the table.
+static const Array three = {3, 1, 7};
+
 // 512 bytes of zeros with these at their end.
 static Bytes ending(std::initializer_list<uint8_t> last)
 {
@@ -65,9 +121,9 @@ static void places()
     const uint8_t one = 1;
     DUE(irumbolai_guard(&one, 1), 0x8BB7);
     DUE(irumbolai_guard(&one, 0), 0);
-    const uint8_t three[3] = {1, 0, 2};
-    const struct irumbolai_guards guards = irumbolai_guards(three, 3, 2);
-    DUE(guards.guard[0], irumbolai_guard(three, 3));
+    const uint8_t bytes[3] = {1, 0, 2};
+    const struct irumbolai_guards guards = irumbolai_guards(bytes, 3, 2);
+    DUE(guards.guard[0], irumbolai_guard(bytes, 3));
     DUE(guards.guard[1], 0x9CD9);
     DUE(guards.guard[2], 0);
     DUE(guards.guard[15], 0);
@@ -77,61 +133,64 @@ static void places()
     DUE(irumbolai_remove_zeros(0x8BB7, 2), 1);
     DUE(irumbolai_combine(0x8BB7, 0x9CD9), 0x176E);
 
-    struct irumbolai_place place = irumbolai_place(16, 268435456, 7, 4026531839);
+    const Array largest = {16, 268435456, 7};
+    struct irumbolai_place place = place_of(largest, 4026531839);
     DUE(place.refusal, 0);
     DUE(place.member, 14);
     DUE(place.stripe, 268435455);
-    DUE(irumbolai_place(16, 268435456, 7, 4026531840).refusal, 3);
+    DUE(place_of(largest, 4026531840).refusal, 3);
 
-    struct irumbolai_owner owner = irumbolai_owner(5, 65537, 7, 65536, 1);
+    const Array five = {5, 65537, 7};
+    struct irumbolai_owner owner = owner_at(five, 65536, 1);
     DUE(owner.refusal, 0);
     DUE(owner.parity, 1);
     DUE(owner.block, 0x00040000);
-    DUE(irumbolai_owner(5, 65537, 7, 65536, 5).refusal, 5);
+    DUE(owner_at(five, 65536, 5).refusal, 5);
 }
 
 static void checks()
 {
     Bytes block = joined(ending({3}), {0x8B, 0xB7, 0, 7, 0, 0, 0, 0});
-    struct irumbolai_check check = irumbolai_check(3, 1, 7, 0, 1, block.data(), block.size());
-    DUE(check.refusal, 0);
-    DUE(check.field, 1);
-    DUE(check.found, 0x8BB7);
-    DUE(check.expected, 0x176E);
+    struct irumbolai_check checked = check(three, 0, 1, block);
+    DUE(checked.refusal, 0);
+    DUE(checked.field, 1);
+    DUE(checked.found, 0x8BB7);
+    DUE(checked.expected, 0x176E);
     block[511] = 1;
-    check = irumbolai_check(3, 1, 7, 0, 1, block.data(), block.size());
-    DUE(check.refusal, 0);
-    DUE(check.field, 0);
-    check = irumbolai_check(3, 1, 7, 0, 2, block.data(), block.size());
-    DUE(check.field, 3);
-    DUE(check.found, 0);
-    DUE(check.expected, 1);
-    DUE(irumbolai_check(3, 1, 7, 0, 1, block.data(), 519).refusal, 6);
+    checked = check(three, 0, 1, block);
+    DUE(checked.refusal, 0);
+    DUE(checked.field, 0);
+    checked = check(three, 0, 2, block);
+    DUE(checked.field, 3);
+    DUE(checked.found, 0);
+    DUE(checked.expected, 1);
+    block.pop_back();
+    DUE(check(three, 0, 1, block).refusal, 6);
 }
 
 static void jobs()
 {
     Bytes data = joined(ending({1}), ending({2})), stripe(1560, 0xFF), out(512, 0xFF);
-    DUE(irumbolai_seal(3, 1, 7, 0, data.data(), data.size() - 1, stripe.data(), stripe.size()), 6);
+    DUE(seal(three, 0, Bytes(1023), stripe), 6);
     DUE(stripe == Bytes(1560, 0xFF), true);
-    DUE(irumbolai_seal(3, 1, 7, 0, data.data(), data.size(), stripe.data(), stripe.size()), 0);
+    DUE(seal(three, 0, data, stripe), 0);
     DUE(stripe == sealed(), true);
 
-    struct irumbolai_read read = irumbolai_read(3, 1, 7, 1, stripe.data(), stripe.size(), out.data(), out.size());
+    struct irumbolai_read read = read_block(three, 1, stripe, out);
     DUE(read.refusal, 0);
     DUE(read.rebuilt, 0);
     DUE(out == ending({2}), true);
     stripe[520] ^= 0x10;
-    read = irumbolai_read(3, 1, 7, 0, stripe.data(), stripe.size(), out.data(), out.size());
+    read = read_block(three, 0, stripe, out);
     DUE(read.refusal, 0);
     DUE(read.rebuilt, 1);
     DUE(out == ending({1}), true);
-    DUE(irumbolai_rebuild(3, 1, 7, 0, 0, stripe.data(), stripe.size()), 9);
-    DUE(irumbolai_rebuild(3, 1, 7, 0, 1, stripe.data(), stripe.size()), 0);
+    DUE(rebuild(three, 0, 0, stripe), 9);
+    DUE(rebuild(three, 0, 1, stripe), 0);
     DUE(stripe == sealed(), true);
 
     Bytes zeros(512);
-    DUE(irumbolai_update(3, 1, 7, 0, zeros.data(), zeros.size(), stripe.data(), stripe.size()), 0);
+    DUE(update(three, 0, zeros, stripe), 0);
     DUE(stripe[512] << 8 | stripe[513], 0x9CD9);
     DUE(stripe[520 + 512] << 8 | stripe[520 + 513], 0);
 }
@@ -139,13 +198,13 @@ static void jobs()
 static void scrubs()
 {
     Bytes stripe = sealed();
-    due_verdict(irumbolai_scrub(3, 1, 7, 0, stripe.data(), stripe.size()), 0, 0, 0, 0);
+    due_verdict(scrub(three, 0, stripe), 0, 0, 0, 0);
     stripe[2 * 520] ^= 1;
     stripe[520 + 519] ^= 1;
-    due_verdict(irumbolai_scrub(3, 1, 7, 0, stripe.data(), stripe.size()), 0, 1, 1, 2);
-    due_verdict(irumbolai_scrub(3, 0, 7, 0, stripe.data(), stripe.size()), 2, 0, 0, 0);
+    due_verdict(scrub(three, 0, stripe), 0, 1, 1, 2);
+    due_verdict(scrub({3, 0, 7}, 0, stripe), 2, 0, 0, 0);
     stripe = torn({0x01, 0x8B, 0xB7}, 0, 0);
-    due_verdict(irumbolai_scrub(3, 1, 7, 0, stripe.data(), stripe.size()), 0, 2, 509, 0);
+    due_verdict(scrub(three, 0, stripe), 0, 2, 509, 0);
 
     std::vector<uint16_t> guards = {0x176E, 0x8BB7, 0x9CD9};
     struct irumbolai_quick quick = irumbolai_quick_scrub(guards.data(), guards.size());
@@ -164,7 +223,7 @@ static void scrubs()
 static void states()
 {
     Bytes work(512, 0xFF), piece = joined(ending({2}), {0xA1, 0xB2, 0xC3});
-    struct irumbolai_taken taken = irumbolai_start(5, 70000, 7, 65536, work.data(), work.size());
+    struct irumbolai_taken taken = start({5, 70000, 7}, 65536, work);
     DUE(taken.refusal, 0);
     DUE(work == Bytes(512), true);
     taken = irumbolai_piece(taken.state, 4, piece.data(), piece.size(), work.data(), work.size());
@@ -194,7 +253,7 @@ static void states()
 static struct irumbolai_verdict scanned(const Bytes &stripe)
 {
     Bytes work(512, 0xFF);
-    struct irumbolai_taken taken = irumbolai_start(3, 1, 7, 0, work.data(), work.size());
+    struct irumbolai_taken taken = start(three, 0, work);
     for (size_t at = 0; at < 520; at += 7)
         for (size_t member = 3; member-- > 0;) {
             const uint8_t *block = stripe.data() + 520 * member;

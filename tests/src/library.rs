@@ -97,6 +97,13 @@ mod c {
 // SAFETY, for every call: each pointer comes with the length of its own buffer, which is lent for the call alone,
 // and is not const only where the header lets the call write.
 
+/// A call on an array, whose numbers go first, one by one. No call is handed them elsewhere.
+macro_rules! on_array {
+    ($call:ident, $array:ident, $($rest:expr),+) => {
+        unsafe { c::$call($array.members, $array.stripes, $array.volume, $($rest),+) }
+    };
+}
+
 pub fn guard(bytes: &Lent<u8>) -> u16 {
     unsafe { c::irumbolai_guard(bytes.pointer(), bytes.length()) }
 }
@@ -108,11 +115,6 @@ pub fn guards(bytes: &Lent<u8>, stride: usize) -> [u16; 16] {
 /// The guard of bytes where they lie.
 pub fn guard_at(bytes: &[u8]) -> u16 {
     unsafe { c::irumbolai_guard(bytes.as_ptr(), bytes.len()) }
-}
-
-/// An array's numbers, in the order in which every call takes them.
-fn numbers(array: &Array) -> (usize, u64, u8) {
-    (array.members, array.stripes, array.volume)
 }
 
 pub fn join(a: u16, b: u16, length_of_b: u32) -> u16 {
@@ -132,53 +134,44 @@ pub fn combine(a: u16, b: u16) -> u16 {
 }
 
 pub fn place(array: &Array, block: u64) -> Place {
-    let (members, stripes, volume) = numbers(array);
-    unsafe { c::irumbolai_place(members, stripes, volume, block) }
+    on_array!(irumbolai_place, array, block)
 }
 
 pub fn owner(array: &Array, stripe: u64, member: usize) -> Owner {
-    let (members, stripes, volume) = numbers(array);
-    unsafe { c::irumbolai_owner(members, stripes, volume, stripe, member) }
+    on_array!(irumbolai_owner, array, stripe, member)
 }
 
 pub fn check(array: &Array, stripe: u64, member: usize, block: &Lent<u8>) -> Check {
-    let (members, stripes, volume) = numbers(array);
-    let (pointer, length) = (block.pointer(), block.length());
-    unsafe { c::irumbolai_check(members, stripes, volume, stripe, member, pointer, length) }
-}
-
-/// A job on a stripe or a block that reads one buffer and writes another.
-type Job<T> = unsafe extern "C" fn(usize, u64, u8, u64, *const u8, usize, *mut u8, usize) -> T;
-
-fn job<T>(call: Job<T>, array: &Array, number: u64, from: &Lent<u8>, to: &mut Lent<u8>) -> T {
-    let (members, stripes, volume) = numbers(array);
-    let (source, length) = (from.pointer(), from.length());
-    let (room, size) = (to.pointer_mut(), to.length());
-    unsafe { call(members, stripes, volume, number, source, length, room, size) }
+    let (from, length) = (block.pointer(), block.length());
+    on_array!(irumbolai_check, array, stripe, member, from, length)
 }
 
 pub fn seal(array: &Array, stripe: u64, data: &Lent<u8>, bytes: &mut Lent<u8>) -> u32 {
-    job(c::irumbolai_seal, array, stripe, data, bytes)
+    let (from, length) = (data.pointer(), data.length());
+    let (to, to_length) = (bytes.pointer_mut(), bytes.length());
+    on_array!(irumbolai_seal, array, stripe, from, length, to, to_length)
 }
 
 pub fn read(array: &Array, block: u64, bytes: &Lent<u8>, out: &mut Lent<u8>) -> Read {
-    job(c::irumbolai_read, array, block, bytes, out)
+    let (from, length) = (bytes.pointer(), bytes.length());
+    let (to, to_length) = (out.pointer_mut(), out.length());
+    on_array!(irumbolai_read, array, block, from, length, to, to_length)
 }
 
 pub fn update(array: &Array, block: u64, data: &Lent<u8>, bytes: &mut Lent<u8>) -> u32 {
-    job(c::irumbolai_update, array, block, data, bytes)
+    let (from, length) = (data.pointer(), data.length());
+    let (to, to_length) = (bytes.pointer_mut(), bytes.length());
+    on_array!(irumbolai_update, array, block, from, length, to, to_length)
 }
 
 pub fn rebuild(array: &Array, stripe: u64, member: usize, bytes: &mut Lent<u8>) -> u32 {
-    let (members, stripes, volume) = numbers(array);
     let (to, to_length) = (bytes.pointer_mut(), bytes.length());
-    unsafe { c::irumbolai_rebuild(members, stripes, volume, stripe, member, to, to_length) }
+    on_array!(irumbolai_rebuild, array, stripe, member, to, to_length)
 }
 
 pub fn scrub(array: &Array, stripe: u64, bytes: &Lent<u8>) -> Verdict {
-    let (members, stripes, volume) = numbers(array);
-    let (pointer, length) = (bytes.pointer(), bytes.length());
-    unsafe { c::irumbolai_scrub(members, stripes, volume, stripe, pointer, length) }
+    let (from, length) = (bytes.pointer(), bytes.length());
+    on_array!(irumbolai_scrub, array, stripe, from, length)
 }
 
 pub fn quick_scrub(guards: &Lent<u16>) -> Quick {
@@ -186,9 +179,8 @@ pub fn quick_scrub(guards: &Lent<u16>) -> Quick {
 }
 
 pub fn start(array: &Array, stripe: u64, work: &mut Lent<u8>) -> Taken {
-    let (members, stripes, volume) = numbers(array);
     let (to, to_length) = (work.pointer_mut(), work.length());
-    unsafe { c::irumbolai_start(members, stripes, volume, stripe, to, to_length) }
+    on_array!(irumbolai_start, array, stripe, to, to_length)
 }
 
 pub fn piece(state: Scan, member: usize, bytes: &Lent<u8>, work: &mut Lent<u8>) -> Taken {
