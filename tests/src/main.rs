@@ -21,6 +21,7 @@ const PARTS: &[(&str, Comparison)] = &[
     ("join", compare::join::compare),
     ("layout", compare::layout::compare),
     ("tag", compare::tag::compare),
+    ("kernel", compare::kernel::compare),
     ("stripe", compare::stripe::compare),
     ("scrub", compare::scrub::compare),
     ("scan", compare::scan::compare),

@@ -4,6 +4,7 @@ pub mod cases;
 pub mod guard;
 pub mod images;
 pub mod join;
+pub mod kernel;
 pub mod large;
 pub mod layout;
 pub mod scan;

@@ -37,13 +37,13 @@ fn check_name(answer: &Answer<Checked>) -> &'static str {
     }
 }
 
-fn check(
+/// What the model says of a block, and the library too.
+pub fn checked(
     array: &Array,
     stripe: u64,
     member: usize,
     block: &[u8],
-    tally: &mut Tally,
-) -> Outcome<()> {
+) -> Outcome<Answer<Checked>> {
     let answer = stripe::check(array, stripe, member, block);
     let lent = Lent::new(block);
     same(
@@ -54,6 +54,17 @@ fn check(
     .map_err(|difference| {
         format!("check of stripe {stripe}, member {member} in {array:?}: {difference}")
     })?;
+    Ok(answer)
+}
+
+fn check(
+    array: &Array,
+    stripe: u64,
+    member: usize,
+    block: &[u8],
+    tally: &mut Tally,
+) -> Outcome<()> {
+    let answer = checked(array, stripe, member, block)?;
     tally.add("check", check_name(&answer));
     Ok(())
 }

@@ -1,0 +1,168 @@
+//! Blocks and tags that a Linux kernel wrote: good where they belong, and bad with any bit changed or anywhere else.
+
+use super::{Outcome, same, tag};
+use crate::lent::Lent;
+use crate::library;
+use crate::random::Random;
+use model::guard::guard;
+use model::layout::{Array, Owner, Place};
+use model::stripe::{BLOCK, Checked, DATA, Field};
+
+/// One block a line: its number, its data and its tag. The README beside the file tells where they come from.
+const BLOCKS: &str = include_str!("../../vectors/t10-pi.txt");
+
+/// The kernel leaves the application tag at zero, as data of volume 0 have it.
+const VOLUME: u8 = 0;
+const STRIPES: u64 = 268_435_456;
+
+/// What was seen.
+#[derive(Default)]
+struct Seen {
+    blocks: usize,
+    good: usize,
+    elsewhere: usize,
+    bits: usize,
+    past: usize,
+}
+
+fn bytes_of(digits: &str) -> Outcome<Vec<u8>> {
+    let pairs = (0..digits.len()).step_by(2);
+    pairs
+        .map(|at| digits.get(at..at + 2).unwrap_or(""))
+        .map(|pair| u8::from_str_radix(pair, 16).map_err(|error| format!("{pair:?}: {error}")))
+        .collect()
+}
+
+/// The number and the bytes of a block in a line.
+fn read(line: &str) -> Outcome<(u64, Vec<u8>)> {
+    let words: Vec<&str> = line.split(' ').collect();
+    let [number, data, tag] = words[..] else {
+        return Err(format!("{} words", words.len()));
+    };
+    let number = number.parse().map_err(|error| format!("{error}"))?;
+    let bytes = [bytes_of(data)?, bytes_of(tag)?];
+    same((DATA, BLOCK - DATA), (bytes[0].len(), bytes[1].len()))?;
+    Ok((number, bytes.concat()))
+}
+
+/// The guard that the kernel wrote is the model's and the library's.
+fn guards(bytes: &[u8]) -> Outcome<()> {
+    let (data, tag) = bytes.split_at(DATA);
+    let written = u16::from_be_bytes([tag[0], tag[1]]);
+    same(guard(data), library::guard(&Lent::new(data)))?;
+    if guard(data) == written {
+        return Ok(());
+    }
+    Err(format!(
+        "the model has {:04X}, the kernel {written:04X}",
+        guard(data)
+    ))
+}
+
+/// A block is good at a place, or just this field is its first wrong one; to the library and to the model.
+fn due(array: &Array, place: Place, bytes: &[u8], wrong: Option<Field>) -> Outcome<()> {
+    let found = match tag::checked(array, place.stripe, place.member, bytes)? {
+        Ok(Checked::Good) => None,
+        Ok(Checked::Wrong { field, .. }) => Some(field),
+        Err(number) => return Err(format!("a check is refused by {number}")),
+    };
+    if found == wrong {
+        return Ok(());
+    }
+    Err(format!(
+        "{place:?} of {array:?}: found wrong {found:?}, due {wrong:?}"
+    ))
+}
+
+/// At every other place of the stripe, of its neighbours and of those a turn of the parity away, and for every other volume, the kind or
+/// the number is wrong.
+fn elsewhere(array: &Array, place: Place, bytes: &[u8], seen: &mut Seen) -> Outcome<()> {
+    let turn = array.members as i64;
+    let near = [-turn, -1, 0, 1, turn].map(|far| place.stripe.checked_add_signed(far));
+    for stripe in near.into_iter().flatten() {
+        for member in 0..array.members {
+            let other = Place { stripe, member };
+            let wrong = match array.owner(stripe, member) {
+                Ok(Owner::Parity { .. }) => Field::Application,
+                Ok(Owner::Data { .. }) if other != place => Field::Reference,
+                _ => continue,
+            };
+            due(array, other, bytes, Some(wrong))?;
+            seen.elsewhere += 1;
+        }
+    }
+    for volume in 1..=u8::MAX {
+        let other = Array { volume, ..*array };
+        due(&other, place, bytes, Some(Field::Application))?;
+        seen.elsewhere += 1;
+    }
+    Ok(())
+}
+
+/// Each bit of the block changed by itself: its field is wrong, or the guard if it is a bit of the data.
+fn changed(array: &Array, place: Place, bytes: &[u8], seen: &mut Seen) -> Outcome<()> {
+    let mut bytes = bytes.to_vec();
+    for bit in 0..8 * BLOCK {
+        let wrong = match bit / 8 {
+            0..514 => Field::Guard,
+            514..516 => Field::Application,
+            _ => Field::Reference,
+        };
+        bytes[bit / 8] ^= 0x80 >> (bit % 8);
+        due(array, place, &bytes, Some(wrong))
+            .map_err(|difference| format!("bit {bit} changed: {difference}"))?;
+        bytes[bit / 8] ^= 0x80 >> (bit % 8);
+        seen.bits += 1;
+    }
+    Ok(())
+}
+
+/// The largest array of each number of members.
+fn arrays() -> impl Iterator<Item = Array> {
+    (3..=16).map(|members| Array {
+        members,
+        stripes: STRIPES,
+        volume: VOLUME,
+    })
+}
+
+/// A block in every array that has it; its bits are changed in one of them, for each block another. A tag holds the lower 32 bits of
+/// the number: a block past them is in no array, and its tag is that of the block whose number they are.
+fn block(number: u64, bytes: &[u8], seen: &mut Seen) -> Outcome<()> {
+    guards(bytes)?;
+    let tagged = number & u64::from(u32::MAX);
+    if number != tagged {
+        arrays().try_for_each(|array| same(3, library::place(&array, number).refusal))?;
+        seen.past += 1;
+    }
+    let having: Vec<Array> = arrays().filter(|array| tagged < array.blocks()).collect();
+    for (turn, array) in having.iter().enumerate() {
+        let found = library::place(array, tagged);
+        let place = Place {
+            stripe: found.stripe,
+            member: found.member as usize,
+        };
+        same(array.place(tagged), Ok(place))?;
+        due(array, place, bytes, None)?;
+        elsewhere(array, place, bytes, seen)?;
+        if turn == seen.blocks % having.len() {
+            changed(array, place, bytes, seen)?;
+        }
+        seen.good += 1;
+    }
+    seen.blocks += 1;
+    Ok(())
+}
+
+pub fn compare(_: &mut Random) -> Outcome<String> {
+    let mut seen = Seen::default();
+    for (line, at) in BLOCKS.lines().zip(1..) {
+        read(line)
+            .and_then(|(number, bytes)| block(number, &bytes, &mut seen))
+            .map_err(|difference| format!("line {at}: {difference}"))?;
+    }
+    Ok(format!(
+        "{} blocks that Linux wrote ({} past the reference tag), guards alike: good at {} places, bad at {} others and with {} bits changed one by one",
+        seen.blocks, seen.past, seen.good, seen.elsewhere, seen.bits
+    ))
+}
