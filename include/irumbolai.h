@@ -3,27 +3,29 @@
  * rig/rig.c is an example.
  *
  * Calls. Every call takes any bytes and any numbers, and returns. None allocates memory, keeps a pointer, or holds
- * anything from one call to the next, so calls on different buffers may run at once. Of the C library they use
- * memcpy, memmove, memset and memcmp at most.
+ * anything from one call to the next, so calls may run at once where none writes a buffer that another is lent. Of the
+ * C library they use memcpy, memmove, memset and memcmp at most.
  *
  * Buffers. A buffer is lent for the call: a pointer, and after it the length in bytes (of guards, their number). The
- * pointer is never NULL, also where the length is 0 and nothing is read. What is lent as const is only read. Each
- * comment says what is written; nothing else changes. A buffer that is written must not overlap another one of the
- * same call.
+ * pointer must not be NULL, not even where the length is 0 and nothing is read. What is lent as const is only read.
+ * Each comment says what is written; nothing else changes. A buffer that is written must not overlap another one of
+ * the same call.
  *
  * Structs go in and come back by value, as any C compiler does it. The largest, of a scan, are 224 and 232 bytes, which
  * each of its calls copies. Bytes between the fields hold nothing: compare structs by their fields, not with memcmp.
  * In C++ the word struct is needed before a name that is a call's too.
  *
- * The array. It is named by three numbers: `members` (drives, n), `stripes` (S) and `volume`. Stripes, members and
- * blocks are counted from 0. A stripe has one block on each member. One of these holds the parity, the other n - 1
- * hold data, so the array's block numbers run from 0 to S x (n - 1) - 1.
+ * The array. It is named by three numbers: `members` (drives, n), `stripes` (S) and `volume` (any byte). Stripes,
+ * members and blocks are counted from 0. A stripe has one block on each member. One of these holds the parity, the
+ * exclusive-or of the others' data; the other n - 1 hold data, so the array's block numbers run from 0 to
+ * S x (n - 1) - 1. The parity of stripe s lies on member s mod n, and its data, from block s x (n - 1) on, on the other
+ * members in rising order.
  *
  * A block is 520 bytes: 512 of data, then its tag, in which every field has its highest byte first: guard (2 bytes,
  * of the data), application tag (2 bytes: 00h for data or 80h for parity, then the volume), reference tag (4 bytes:
  * the block number; for parity, the lowest block number in its stripe). A block is good on a member of a stripe if
- * all three fields are those due there, else it is bad. A stripe in memory is its n blocks in the order of the members,
- * n x 520 bytes.
+ * all three fields are those due there, else it is bad; every value is compared, an application tag of FFFFh too. A
+ * stripe in memory is its n blocks in the order of the members, n x 520 bytes.
  *
  * Refusals. A call that can be refused says so by number, 0 where it is done. It makes its tests in the order in
  * which its numbers are listed, and the first that fails decides. A refused call leaves every buffer as it was
@@ -35,7 +37,7 @@
  *   4  the state of a scan is not fit: 1, 2 or 3 holds of its numbers, or one of its first n positions is above 520
  *   5  the array has no such member
  *   6  a buffer has not the length that its call asks for
- *   7  a piece is longer than what its member lacks
+ *   7  a piece is longer than what its member still lacks of a block
  *   8  a member has not given all its 520 bytes
  *   9  the blocks that the call needs are not all good
  */
@@ -50,7 +52,8 @@ extern "C" {
 #endif
 
 /*
- * The guard of a run of bytes: CRC-16/T10-DIF, generator 8BB7h, register started at 0, highest bit first.
+ * The guard of a run of bytes: CRC-16/T10-DIF, generator 8BB7h, register started at 0, highest bit first, nothing added
+ * at the end. That of no bytes is 0, that of the nine characters 123456789 is D0DBh.
  *
  *   lent      bytes: any number, read
  *   refusals  none
@@ -58,10 +61,10 @@ extern "C" {
 uint16_t irumbolai_guard(const uint8_t *bytes, size_t length);
 
 /*
- * The guards of up to sixteen blocks at once, which takes a fraction of the time of as many calls of irumbolai_guard.
- * guard[i] is that of the 512 bytes that begin i x stride bytes after the first: with a stride of 520, of the data of the
- * members of a stripe in memory. Of a run that the buffer cuts off it is the guard of what is there; past the buffer's end
- * it is 0, the guard of no bytes.
+ * The guards of sixteen blocks at once, which takes a fraction of the time of as many calls of irumbolai_guard.
+ * guard[i] is that of the 512 bytes that begin i x stride bytes after the first: with a stride of 520, of the data of
+ * member i of a stripe in memory. Where the buffer ends before the 512 bytes do, it is the guard of those that are
+ * there, so 0 where there are none.
  *
  *   lent      bytes: any number, read
  *   refusals  none
@@ -69,18 +72,17 @@ uint16_t irumbolai_guard(const uint8_t *bytes, size_t length);
 struct irumbolai_guards {
     uint16_t guard[16];
 };
-
 struct irumbolai_guards irumbolai_guards(const uint8_t *bytes, size_t length, size_t stride);
 
 /*
- * Guards from guards and lengths, without the bytes. These four refuse nothing, and take a number that is no run's
- * guard through the same sums. A length is a number of bytes. They look at no byte: a call costs one multiplication for
- * each bit of the length that is one, so 32 at most.
+ * Guards from guards and lengths, without the bytes. These four refuse nothing: any numbers go through the same sums,
+ * whether or not a run has that guard and length. A length is a number of bytes. They look at no byte: a call costs one
+ * multiplication for each bit of the length that is one, so 32 at most.
  *
  * A guard does not tell how long its run is: 65,535 zero bytes more at the end leave it as it was.
  */
 
-/* The guard of two runs joined, `a` that of the first, `b` that of the second. At length 0 they are combined. */
+/* The guard of two runs joined, `a` that of the first, `b` that of the second. At length 0 it is a combined with b. */
 uint16_t irumbolai_join(uint16_t a, uint16_t b, uint32_t length_of_b);
 
 /* The guard of a run with `n` zero bytes after it. */
@@ -121,7 +123,7 @@ struct irumbolai_owner irumbolai_owner(size_t members, uint64_t stripes, uint8_t
 /*
  * Checks a block against the tag due on a member of a stripe. `field` is 0 if the block is good; else it names the
  * first wrong field (1 guard, 2 application tag, 3 reference tag), with the value found in the block and the value
- * expected.
+ * expected, which are both 0 for a good block.
  *
  *   lent      block: 520 bytes, read
  *   refusals  1, 2, 3, 5, 6
@@ -174,7 +176,7 @@ uint32_t irumbolai_rebuild(size_t members, uint64_t stripes, uint8_t volume, uin
 
 /*
  * Puts new data into a block and brings the parity of its stripe along. Both blocks must be good, else the refusal is
- * 9; the other members are not looked at. Gives the refusal.
+ * 9; the other members are not looked at. A clean stripe stays clean, a torn one torn. Gives the refusal.
  *
  *   lent      data: 512 bytes, read; bytes: the stripe, n x 520 bytes, of which the 520 of the block and the 520 of
  *             the parity are read and written
@@ -186,7 +188,7 @@ uint32_t irumbolai_update(size_t members, uint64_t stripes, uint8_t volume, uint
 /*
  * The full scrub of a stripe. `kind` is 0 if it is clean: every block is good and the data of all members combine to
  * zero by exclusive-or. It is 1 if blocks are bad: `first` is the lowest such member, `count` how many they are. It
- * is 2 if all blocks are good and the stripe is torn: `first` is the first place, 0 to 511, at which the data do not
+ * is 2 if all blocks are good and the stripe is torn: `first` is the first byte, 0 to 511, at which the data do not
  * combine to zero, and `count` is 0.
  *
  *   lent      bytes: the stripe, n x 520 bytes, read
@@ -204,10 +206,10 @@ struct irumbolai_verdict irumbolai_scrub(size_t members, uint64_t stripes, uint8
 /*
  * The quick scrub: the guards stored in the blocks of a stripe, one a member, without the data. `combination` is
  * their exclusive-or, and `differs` is 1 if it is not zero. Where no block is bad, the guards of a clean stripe do
- * not differ; those of a torn one do, if what its data combine to has all its one bits within sixteen successive
- * places.
+ * not differ. Those of a torn one do if what its data combine to has all its one bits within sixteen successive bits,
+ * each byte's highest bit first; other torn stripes can go unseen.
  *
- *   lent      guards: `count` numbers, each made from its two bytes in the tag, read
+ *   lent      guards: `count` numbers, each made from its two bytes in the tag, the first the higher; read
  *   refusals  1
  */
 struct irumbolai_quick {
@@ -219,11 +221,11 @@ struct irumbolai_quick irumbolai_quick_scrub(const uint16_t *guards, size_t coun
 
 /*
  * A scan: the full scrub of a stripe whose bytes come in pieces. The caller keeps the state and a work buffer of 512
- * bytes between the calls, and hands the state of the last answer to the next call. Of each member the state holds
- * the position in its block (how many bytes it has given), the guard's register over its data so far, and its 8 tag
- * bytes, those of member m at `tag` + 8m. The work buffer holds what all data so far combine to.
- * Any state is taken: a fit one that no scan led to goes on from what it holds. A kept copy of state and work buffer
- * is a scan that can be taken up again.
+ * bytes between the calls, and hands the state of the last answer to the next call. Of member m the state holds the
+ * position in its block (`at[m]`: how many bytes it has given), the guard's register over its data so far
+ * (`register_[m]`), and its 8 tag bytes (from `tag[8m]`). The work buffer holds what all data so far combine to.
+ * Any state may be handed in: one that is not fit is refused by number 4, and a fit one that no scan led to goes on
+ * from what it holds. A kept copy of state and work buffer is a scan that can be taken up again.
  */
 struct irumbolai_scan {
     size_t members;
@@ -249,8 +251,8 @@ struct irumbolai_taken irumbolai_start(size_t members, uint64_t stripes, uint8_t
                                        size_t work_length);
 
 /*
- * Takes in the next bytes of a member, any number that its block still lacks, none too. Data bytes go into the
- * member's register, tag bytes into its tag bytes, and its position moves on; nothing else of the state changes.
+ * Takes in the next bytes of a member, from none to all that its block still lacks. Data bytes go into the member's
+ * register, tag bytes into its tag bytes, and its position moves on; nothing else of the state changes.
  *
  *   lent      bytes: the piece, read; work: 512 bytes, the data bytes combined into those at their places in the block
  *   refusals  4, 5, 6 (of the work buffer), 7
@@ -260,7 +262,7 @@ struct irumbolai_taken irumbolai_piece(struct irumbolai_scan state, size_t membe
 
 /*
  * Ends a scan once every member has given its 520 bytes: the verdict that irumbolai_scrub gives of those blocks, by
- * the state and the work buffer alone. It may be asked again.
+ * the state and the work buffer alone. It changes nothing, and may be asked again.
  *
  *   lent      work: 512 bytes, read
  *   refusals  4, 6, 8
