@@ -4,9 +4,8 @@ use crate::library;
 use crate::peers::{Isal, Ordinary, Peer};
 use crate::random::{self, Random};
 use crate::rows::CONTESTANTS;
-use crate::timing::{is_here, keep, nanoseconds};
+use crate::timing::{is_here, keep, timed};
 use std::hint::black_box;
-use std::time::Instant;
 
 pub const ROUNDS: usize = 30;
 
@@ -66,9 +65,7 @@ impl Ground {
         for _ in 0..ROUNDS {
             for (who, peer) in (1..).zip(peers).filter(|(who, _)| is_here(*who)) {
                 let (run, copy) = self.run(length);
-                let start = Instant::now();
-                black_box(peer(run, copy));
-                keep(&mut best[who], nanoseconds(start.elapsed()));
+                keep(&mut best[who], timed(|| peer(run, copy)));
             }
         }
         best
@@ -91,13 +88,12 @@ impl Ground {
 pub fn join(length: u32) -> f64 {
     let mut best = None;
     for _ in 0..ROUNDS {
-        let start = Instant::now();
-        let mut last = black_box(0x8BB7);
-        for _ in 0..JOINS {
-            last = library::join(last, 0x1234, length);
-        }
-        black_box(last);
-        keep(&mut best, nanoseconds(start.elapsed()) / JOINS as f64);
+        let time = timed(|| {
+            (0..JOINS).fold(black_box(0x8BB7), |last, _| {
+                library::join(last, 0x1234, length)
+            })
+        });
+        keep(&mut best, time / JOINS as f64);
     }
     best.expect("there are rounds")
 }

@@ -1,4 +1,4 @@
-//! The machine in general words, and the compilers.
+//! The machine, how busy it is, and the compilers.
 
 use crate::peers::isal;
 use std::fs;
@@ -12,11 +12,13 @@ pub fn print() {
         "machine"
     };
     println!(
-        "A {kind} with {cores} {} cores ({}), {}, {} GiB of memory.",
+        "A {kind} with {cores} {} cores of {} ({}), {}, {} GiB of memory. Its load in the minute before: {}.",
         std::env::consts::ARCH,
+        processor(),
         instructions(),
         caches(),
-        memory()
+        memory(),
+        load()
     );
     println!(
         "The peers: {}, opt-level 3, for any {} processor; ISA-L {}.",
@@ -28,6 +30,30 @@ pub fn print() {
 
 fn cpu() -> String {
     fs::read_to_string("/proc/cpuinfo").unwrap_or_default()
+}
+
+/// The processor as it calls itself; a virtual one often leaves out what only its numbers tell.
+fn processor() -> String {
+    let cpu = cpu();
+    let told = |name: &str| {
+        let mut lines = cpu.lines().filter_map(|line| line.split_once(':'));
+        let line = lines.find(|(found, _)| found.trim() == name);
+        line.map_or("of no name", |(_, text)| text.trim())
+            .to_string()
+    };
+    format!(
+        "{}, family {}, model {}",
+        told("model name"),
+        told("cpu family"),
+        told("model")
+    )
+}
+
+/// How many processes ran or wanted to, on average over the last minute.
+fn load() -> String {
+    let text = fs::read_to_string("/proc/loadavg").unwrap_or_default();
+    let minute = text.split_whitespace().next();
+    minute.unwrap_or("not known").to_string()
 }
 
 /// The vector instructions that matter to ISA-L and memcpy.

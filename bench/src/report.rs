@@ -5,14 +5,13 @@ use crate::peers::{self, Isal, Ordinary};
 use crate::random::{self, Random};
 use crate::rows::{CONTESTANTS, IRUMBOLAI, ISAL, MEMCPY, ORDINARY, Room, copy_stripe, guards};
 use crate::stripes::{MEMBERS, STRIPE, VOLUME, Verdict, blocks, damage, seal};
-use crate::timing::{is_here, keep, nanoseconds};
+use crate::timing::{is_here, keep, timed};
 use std::env;
 use std::hint::black_box;
 use std::io::{self, BufReader, BufWriter, Read, Write};
 use std::path::Path;
 use std::process::{Command, Stdio};
 use std::thread;
-use std::time::Instant;
 
 /// How many turns each program has.
 pub const ROUNDS: usize = 15;
@@ -91,12 +90,6 @@ pub fn measure(program: &Path) -> Times {
         keep(&mut times.scans, scans);
     }
     times
-}
-
-fn timed<T>(work: impl FnOnce() -> T) -> f64 {
-    let start = Instant::now();
-    black_box(work());
-    nanoseconds(start.elapsed())
 }
 
 fn image(stripes: usize, random: &mut Random) -> Vec<u8> {

@@ -5,7 +5,7 @@ use crate::random::{self, Random};
 use crate::rows::{CONTESTANTS, IRUMBOLAI, ISAL, MEMCPY, Room, Row, Source};
 use crate::stripes::{MEMBERS, STRIPE, damage, seal};
 use std::hint::black_box;
-use std::time::{Duration, Instant};
+use std::time::Instant;
 
 /// So often all rows are gone through, so that what disturbs the machine for a second meets no row alone.
 pub const PASSES: usize = 20;
@@ -80,15 +80,16 @@ impl Ground {
                         (&mut self.many, self.next * SEGMENT, SEGMENT, 1)
                     }
                 };
-                let start = Instant::now();
-                for _ in 0..repeats {
-                    for number in first..first + stripes {
-                        let bytes = black_box(from.stripe(number));
-                        black_box(job(number as u64, bytes, &mut room));
+                let time = timed(|| {
+                    for _ in 0..repeats {
+                        for number in first..first + stripes {
+                            let bytes = black_box(from.stripe(number));
+                            black_box(job(number as u64, bytes, &mut room));
+                        }
                     }
-                }
+                });
                 let units = repeats * stripes * row.units;
-                keep(&mut best[who], nanoseconds(start.elapsed()) / units as f64);
+                keep(&mut best[who], time / units as f64);
             }
         }
     }
@@ -98,8 +99,21 @@ pub fn is_here(who: usize) -> bool {
     who != ISAL || isal::VERSION.is_some()
 }
 
-pub fn nanoseconds(time: Duration) -> f64 {
-    time.as_nanos() as f64
+/// How long some work takes, in nanoseconds. Every time that this program tells is taken here.
+pub fn timed<T>(work: impl FnOnce() -> T) -> f64 {
+    clear_upper_halves();
+    let start = Instant::now();
+    black_box(work());
+    start.elapsed().as_nanos() as f64
+}
+
+/// Clears the upper halves of the vector registers. ISA-L leaves them in use, which can slow code for any x86_64 processor that runs after it.
+fn clear_upper_halves() {
+    #[cfg(target_arch = "x86_64")]
+    if is_x86_feature_detected!("avx") {
+        // SAFETY: the processor has the instruction, and what it clears this program's own code does not use.
+        unsafe { std::arch::x86_64::_mm256_zeroupper() }
+    }
 }
 
 /// Keeps the lesser time.
