@@ -1,0 +1,91 @@
+-- Each kind of line of a report, byte by byte, and the numbers and refusals of some headers, computed from the definitions: words, order of
+-- bytes and numbers are pinned here, beside the code. Assumes nothing.
+use mathlib.Core.Path.{_≡_, refl}
+use mathlib.Core.List.{List, [], _∷_}
+use Prim.Native.Nat.{ℕ}
+use Rattle.layout.specs.Arrays.{arrayRefusal}
+use Rattle.layout.specs.declared.Array.{Array}
+use Rattle.tag.specs.Numbers.{numberOf}
+use Rattle.lines.specs.Text.{decimal, scrubWord, membersWord, stripesWord, cleanWord, badWord, tornWord, totalWord, cleanCount, badCount, tornCount, refusedWord}
+use Rattle.lines.specs.Lines.{firstLine, stripeLine, totalLine, refusedLine}
+use Rattle.lines.specs.Headers.{arrayIn, headerRefusal}
+
+-- ---- lines
+
+abbrev fiveByThousand : Array
+fiveByThousand = record { members = 5; stripes = 1000; volume = 9 }
+
+-- "SCRUB v1 members 5 stripes 1000"
+pub first-line-reads : firstLine fiveByThousand ≡ 0x53 ∷ 0x43 ∷ 0x52 ∷ 0x55 ∷ 0x42 ∷ 0x20 ∷ 0x76 ∷ 0x31 ∷ 0x20 ∷ 0x6D ∷ 0x65 ∷ 0x6D ∷ 0x62 ∷ 0x65
+    ∷ 0x72 ∷ 0x73 ∷ 0x20 ∷ 0x35 ∷ 0x20 ∷ 0x73 ∷ 0x74 ∷ 0x72 ∷ 0x69 ∷ 0x70 ∷ 0x65 ∷ 0x73 ∷ 0x20 ∷ 0x31 ∷ 0x30 ∷ 0x30 ∷ 0x30 ∷ 0x0A ∷ []
+unfolding firstLine scrubWord membersWord stripesWord decimal
+first-line-reads = refl
+
+-- "12 CLEAN"
+pub clean-line-reads : stripeLine 12 (0 ∷ 0 ∷ 0 ∷ []) ≡ 0x31 ∷ 0x32 ∷ 0x20 ∷ 0x43 ∷ 0x4C ∷ 0x45 ∷ 0x41 ∷ 0x4E ∷ 0x0A ∷ []
+unfolding stripeLine cleanWord decimal
+clean-line-reads = refl
+
+-- "12 BAD 3 1": the member, then the count
+pub bad-line-reads : stripeLine 12 (1 ∷ 3 ∷ 1 ∷ []) ≡ 0x31 ∷ 0x32 ∷ 0x20 ∷ 0x42 ∷ 0x41 ∷ 0x44 ∷ 0x20 ∷ 0x33 ∷ 0x20 ∷ 0x31 ∷ 0x0A ∷ []
+unfolding stripeLine badWord decimal
+bad-line-reads = refl
+
+-- "12 TORN 509"
+pub torn-line-reads : stripeLine 12 (2 ∷ 509 ∷ 0 ∷ []) ≡ 0x31 ∷ 0x32 ∷ 0x20 ∷ 0x54 ∷ 0x4F ∷ 0x52 ∷ 0x4E ∷ 0x20 ∷ 0x35 ∷ 0x30 ∷ 0x39 ∷ 0x0A ∷ []
+unfolding stripeLine tornWord decimal
+torn-line-reads = refl
+
+-- "TOTAL 1000 clean 994 bad 2 torn 4"
+pub total-line-reads : totalLine fiveByThousand (record { clean = 994; bad = 2; torn = 4 }) ≡ 0x54 ∷ 0x4F ∷ 0x54 ∷ 0x41 ∷ 0x4C ∷ 0x20 ∷ 0x31
+    ∷ 0x30 ∷ 0x30 ∷ 0x30 ∷ 0x20 ∷ 0x63 ∷ 0x6C ∷ 0x65 ∷ 0x61 ∷ 0x6E ∷ 0x20 ∷ 0x39 ∷ 0x39 ∷ 0x34 ∷ 0x20 ∷ 0x62 ∷ 0x61 ∷ 0x64 ∷ 0x20 ∷ 0x32 ∷ 0x20
+    ∷ 0x74 ∷ 0x6F ∷ 0x72 ∷ 0x6E ∷ 0x20 ∷ 0x34 ∷ 0x0A ∷ []
+unfolding totalLine totalWord cleanCount badCount tornCount decimal
+total-line-reads = refl
+
+-- "REFUSED 10"
+pub refused-line-reads : refusedLine 10 ≡ 0x52 ∷ 0x45 ∷ 0x46 ∷ 0x55 ∷ 0x53 ∷ 0x45 ∷ 0x44 ∷ 0x20 ∷ 0x31 ∷ 0x30 ∷ 0x0A ∷ []
+unfolding refusedLine refusedWord decimal
+refused-line-reads = refl
+
+-- ---- headers
+
+-- length 7, version 1, 3 members, volume 5, and 01020304h stripes: no two of the bytes that are read may change places
+abbrev header : List ℕ
+header = 0x00 ∷ 0x07 ∷ 0x01 ∷ 0x03 ∷ 0x05 ∷ 0x01 ∷ 0x02 ∷ 0x03 ∷ 0x04 ∷ []
+
+pub header-reads : arrayIn header ≡ record { members = 3; stripes = 0x01020304; volume = 5 }
+unfolding arrayIn numberOf
+header-reads = refl
+
+pub header-accepted : headerRefusal header ≡ 0
+unfolding headerRefusal arrayRefusal arrayIn numberOf
+header-accepted = refl
+
+-- a byte short
+pub short-refused : headerRefusal (0x00 ∷ 0x07 ∷ 0x01 ∷ 0x03 ∷ 0x05 ∷ 0x01 ∷ 0x02 ∷ 0x03 ∷ []) ≡ 10
+unfolding headerRefusal arrayRefusal arrayIn numberOf
+short-refused = refl
+
+-- length 8; length 0700h, the two bytes exchanged
+pub length-eight-refused : headerRefusal (0x00 ∷ 0x08 ∷ 0x01 ∷ 0x03 ∷ 0x05 ∷ 0x01 ∷ 0x02 ∷ 0x03 ∷ 0x04 ∷ []) ≡ 10
+unfolding headerRefusal arrayRefusal arrayIn numberOf
+length-eight-refused = refl
+
+pub length-exchanged-refused : headerRefusal (0x07 ∷ 0x00 ∷ 0x01 ∷ 0x03 ∷ 0x05 ∷ 0x01 ∷ 0x02 ∷ 0x03 ∷ 0x04 ∷ []) ≡ 10
+unfolding headerRefusal arrayRefusal arrayIn numberOf
+length-exchanged-refused = refl
+
+-- version 2
+pub version-two-refused : headerRefusal (0x00 ∷ 0x07 ∷ 0x02 ∷ 0x03 ∷ 0x05 ∷ 0x01 ∷ 0x02 ∷ 0x03 ∷ 0x04 ∷ []) ≡ 10
+unfolding headerRefusal arrayRefusal arrayIn numberOf
+version-two-refused = refl
+
+-- 2 members; no stripes
+pub two-members-refused : headerRefusal (0x00 ∷ 0x07 ∷ 0x01 ∷ 0x02 ∷ 0x05 ∷ 0x01 ∷ 0x02 ∷ 0x03 ∷ 0x04 ∷ []) ≡ 1
+unfolding headerRefusal arrayRefusal arrayIn numberOf
+two-members-refused = refl
+
+pub no-stripes-refused : headerRefusal (0x00 ∷ 0x07 ∷ 0x01 ∷ 0x03 ∷ 0x05 ∷ 0x00 ∷ 0x00 ∷ 0x00 ∷ 0x00 ∷ []) ≡ 2
+unfolding headerRefusal arrayRefusal arrayIn numberOf
+no-stripes-refused = refl
