@@ -1,13 +1,30 @@
--- One more verdict: no count goes up by more than one. Assumes nothing.
+-- One more verdict: its own count goes up by one and no other; so no count goes up by more than one. Assumes nothing.
+use mathlib.Core.Path.{_≡_, refl}
 use mathlib.Core.Bool.{Bool, true, false, cond}
 use mathlib.Core.List.{List}
 use Prim.Native.Nat.{ℕ, _+_}
 use native.Mathlib.Omega.{arith}
 use lib.Dec.{eqb}
 use lib.ListN.{getD}
+use Rattle.verdict.specs.declared.Verdict.the-variants.{Clean, Bad, Torn}
+use Rattle.verdict.specs.Verdicts.{verdictNumbers}
 use Rattle.lines.specs.Lines.{Tally}
 use Rattle.report.specs.Reports.{counted}
 use Rattle.report.proofs.Stages.{Counted}
+
+-- each kind of verdict by itself
+module _ (t : Tally) where
+  pub clean-counted : counted t (verdictNumbers Clean) ≡ record { clean = t .clean + 1; bad = t .bad; torn = t .torn }
+  unfolding counted
+  clean-counted = refl
+
+  pub bad-counted : (member count : ℕ) → counted t (verdictNumbers (Bad member count)) ≡ record { clean = t .clean; bad = t .bad + 1; torn = t .torn }
+  unfolding counted
+  bad-counted member count = refl
+
+  pub torn-counted : (place : ℕ) → counted t (verdictNumbers (Torn place)) ≡ record { clean = t .clean; bad = t .bad; torn = t .torn + 1 }
+  unfolding counted
+  torn-counted place = refl
 
 pub one-more-counted : (stripe : ℕ) (t : Tally) (verdict : List ℕ) → Counted stripe t → Counted (stripe + 1) (counted t verdict)
 unfolding counted
