@@ -1,7 +1,7 @@
 -- The close: what it writes is what is to be said when no byte is to come. Assumes nothing.
 use mathlib.Core.Path.{_≡_, ap₂}
 use mathlib.Core.List.{List, [], _++_, append-nil}
-use Prim.Native.Nat.{ℕ, _-_, _≤_, _<_, zero-le}
+use Prim.Native.Nat.{ℕ, _-_, _≤_, _<_}
 use native.Mathlib.Omega.{arith}
 use borrow.Author.Tests.{le-ltb, lt-ltb, lt-leb}
 use lib.ListN.{length}
@@ -11,10 +11,9 @@ use Rattle.layout.proofs.Ranges.{stripe-sound}
 use Rattle.stripe.specs.Stripes.{stripeLength}
 use Rattle.lines.specs.Lines.{refusedLine, totalLine, Tally, lineRoom}
 use Rattle.lines.specs.Headers.{headerLength, headerRefusal}
-use Rattle.lines.proofs.Lines.{refused-line-fits, total-line-fits}
 use Rattle.report.specs.declared.Report.{Report}
 use Rattle.report.specs.Reports.{ending, stripeLines, reportOf}
-use Rattle.report.specs.Feeding.{tallyOf, closeLine}
+use Rattle.report.specs.Feeding.{closeLine}
 use Rattle.report.proofs.Stages.{Stage, inHeader, inStripe, behind, over, toSay, Stands}
 use Rattle.report.proofs.Striping.{one-left}
 
@@ -35,10 +34,3 @@ module _ (r : Report) (w : List ℕ) (room : ℕ) (wide : lineRoom ≤ room) whe
       rw (le-ltb room lineRoom wide, q .stage) (short-stripe-refused a stripe t h (stripe-sound a stripe (q .sound) .here) (q .short))
   close-says (behind a t) q = rw (le-ltb room lineRoom wide, q .stage) (ap₂ totalLine (q .array) (q .tally))
   close-says over q = rw (le-ltb room lineRoom wide, q)
-
-  pub close-fits : (g : Stage) → Stands g r w → length (closeLine r room) ≤ room
-  unfolding closeLine
-  close-fits (inHeader h) q = rw (le-ltb room lineRoom wide, q .stage) (omega (arith, refused-line-fits 10))
-  close-fits (inStripe a stripe t h) q = rw (le-ltb room lineRoom wide, q .stage) (omega (arith, refused-line-fits 11))
-  close-fits (behind a t) q = rw (le-ltb room lineRoom wide, q .stage) (omega (arith, total-line-fits (r .scan .array) (tallyOf r)))
-  close-fits over q = rw (le-ltb room lineRoom wide, q) zero-le

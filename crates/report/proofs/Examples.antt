@@ -9,7 +9,8 @@ use Rattle.lines.specs.Text.{decimal, refusedWord}
 use Rattle.lines.specs.Lines.{refusedLine, lineRoom}
 use Rattle.lines.specs.Headers.{arrayIn, headerRefusal}
 use Rattle.report.specs.Reports.{reportOf}
-use Rattle.report.specs.Feeding.{headerWhole, headerTook, stageStep, feedStep, closeLine, freshReport, fedText}
+use Rattle.report.specs.Feeding.{headerWhole, headerTook, stageStep, feedStep, closeLine, freshReport}
+use Rattle.report.specs.Fills.{fillSteps, fillStep, fedText}
 
 -- "REFUSED ", a digit, and the end of the line
 refusedWith : ℕ → List ℕ
@@ -45,6 +46,8 @@ unfolding
     headerTook
     stageStep
     feedStep
+    fillSteps
+    fillStep
     closeLine
     freshReport
     headerRefusal

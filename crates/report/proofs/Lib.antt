@@ -6,11 +6,15 @@ pub mod Beginning
 pub mod Counting
 pub mod Striping
 pub mod Choosing
+pub mod Within
 pub mod Doing
 pub mod Stepping
 pub mod Closing
 pub mod FitStates
 pub mod StripeSteps
+pub mod Filled
+pub mod FillRuns
 pub mod Occurring
 pub mod Theorem
 pub mod Examples
+pub mod Promised

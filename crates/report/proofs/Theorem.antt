@@ -1,6 +1,7 @@
 -- The theorem of the report: however the image is cut, all that is written, joined, is the report of all that was used, joined.
 -- The invariant: what is yet to be said, by where the report stands, is what the calls to come write.
--- `Run` is the relation of specs/Runs; `fedText`, of specs/Feeding, is what a list of pieces writes, each fed until it is used up.
+-- `ReportRun` is the relation of specs/Runs; `fedText`, of specs/Fills, is what a list of pieces writes, each filled until it is used up.
+-- That the calls promise the steps of a run is proved in Promised.antt, from their own `ensures`.
 -- Assumes nothing.
 use mathlib.Core.Path.{_≡_, sym, ap, ap₂, refl, _∙_, subst}
 use mathlib.Core.List.{List, [], _++_}
@@ -11,19 +12,21 @@ use Rattle.stripe.specs.Tables.{joined}
 use Rattle.lines.specs.Lines.{lineRoom}
 use Rattle.report.specs.declared.Report.{Report}
 use Rattle.report.specs.Reports.{reportOf}
-use Rattle.report.specs.Feeding.{freshReport, feedLine, closeLine, fedText}
-use Rattle.report.specs.Runs.{Run, closed, fed}
+use Rattle.report.specs.Feeding.{freshReport, feedLine, closeLine}
+use Rattle.report.specs.Fills.{fedText}
+use Rattle.report.specs.Runs.{ReportRun, closed, fed}
 use Rattle.report.proofs.Storing.{written-there}
 use Rattle.report.proofs.Stages.{Stage, inHeader, toSay, Stands}
 use Rattle.report.proofs.Beginning.{fresh-stands}
 use Rattle.report.proofs.Stepping.{feed-leads}
-use Rattle.report.proofs.Closing.{close-says, close-fits}
+use Rattle.report.proofs.Closing.{close-says}
+use Rattle.report.proofs.Within.{close-fits}
 use Rattle.report.proofs.Occurring.{pieces-run}
 
-run-says : {s : Report} {w image text : List ℕ} → Run s w image text → (g : Stage) → Stands g s w → text ≡ toSay g image
+run-says : {s : Report} {w image text : List ℕ} → ReportRun s w image text → (g : Stage) → Stands g s w → text ≡ toSay g image
 run-says (closed {s = s} {w = w} {out′ = out′} out written wide e f) g q =
     let line : take written out′ ≡ closeLine s (length out) =
-    rw (e, f) (written-there out (closeLine s (length out)) (close-fits s w (length out) wide g q)) in
+    rw (e, f) (written-there out (closeLine s (length out)) (close-fits s (length out))) in
     line ∙ close-says s w (length out) wide g q
 run-says (fed {s = s} {w = w} {w′ = w′} {out′ = out′} {image = image} input out r e f k d o run) g q =
     let m = feed-leads s input w (length out) g q in
@@ -37,7 +40,7 @@ run-says (fed {s = s} {w = w} {w′ = w′} {out′ = out′} {image = image} in
 
 -- every run of the calls, as they promise: with any inputs, of which each call uses what it does, and any output buffers
 pub run-writes-the-report : {s : Report} {w image text : List ℕ} → s ≡ freshReport → length w ≡ dataLength
-    → Run s w image text → text ≡ reportOf image
+    → ReportRun s w image text → text ≡ reportOf image
 run-writes-the-report {s} {w} new long run = run-says run (inHeader []) (rw new (fresh-stands w long))
 
 -- every list of pieces, empty ones too, where each call has room for a line
@@ -46,4 +49,5 @@ pub pieces-write-the-report : (room : ℕ) → lineRoom ≤ room → (w : List �
 pieces-write-the-report room wide w long pieces =
     subst (λ (n : ℕ). fedText n freshReport pieces w ≡ reportOf (joined pieces)) (length-replicate {A = ℕ} room 0)
     (run-writes-the-report refl long
-    (pieces-run (replicate room 0) (rw (length-replicate {A = ℕ} room 0) wide) pieces freshReport w (inHeader []) (fresh-stands w long)))
+    (pieces-run (replicate room 0) (rw (length-replicate {A = ℕ} room 0) wide) pieces freshReport w
+    (record { place = inHeader []; stands = fresh-stands w long })))

@@ -1,9 +1,9 @@
 -- A report that is fed: what one call of feed does, and what close and new give, on any state and any buffers, not only those that a
 -- run leads to. A call uses a first part of the input and writes at most one line. Assumes nothing.
-use Prim.Native.Nat.{ℕ, zero, suc, _+_, _-_, _/_, _%_}
+use Prim.Native.Nat.{ℕ, _+_, _-_, _/_, _%_}
 use mathlib.Core.Path.{_≡_}
 use mathlib.Core.Bool.{Bool, cond, _&&_, _||_}
-use mathlib.Core.List.{List, [], _∷_, _++_}
+use mathlib.Core.List.{List, []}
 use lib.Dec.{leb, ltb, eqb}
 use lib.ListN.{length, getD, take, drop, replicate}
 use lib.Seq.{sets}
@@ -165,21 +165,3 @@ closeLine r room =
 
 unfoldable pub freshReport : Report
 freshReport = entering 0 (replicate headerLength 0) (emptyScan noArray 0) none
-
--- ---- a whole input in pieces, where each call has this room for output
-
-module _ (room : ℕ) where
-  -- one piece, in at most so many calls, each of which gets what the one before it did not use
-  abbrev pub feedAll : ℕ → Report → List ℕ → List ℕ → Step
-  feedAll zero r input work = idle r work
-  feedAll (suc calls) r input work =
-      let first = feedStep r input work room in
-      let rest = feedAll calls (first .state) (drop (first .used) input) (first .work) in
-      record { used = first .used + rest .used; state = rest .state; work = rest .work; line = first .line ++ rest .line }
-
-  -- each piece in as many calls as it has bytes, then a close: all that is written
-  abbrev pub fedText : Report → List (List ℕ) → List ℕ → List ℕ
-  fedText r [] work = closeLine r room
-  fedText r (piece ∷ pieces) work =
-      let fed = feedAll (length piece) r piece work in
-      fed .line ++ fedText (fed .state) pieces (fed .work)

@@ -1,3 +1,4 @@
 pub mod Reports
 pub mod Feeding
 pub mod Runs
+pub mod Fills

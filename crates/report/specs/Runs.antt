@@ -8,21 +8,26 @@ use lib.Seq.{sets}
 use Rattle.lines.specs.Lines.{lineRoom}
 use Rattle.report.specs.declared.Report.{Report}
 use Rattle.report.specs.declared.Fed.{Fed}
-use Rattle.report.specs.Feeding.{feedUsed, feedState, feedWork, feedLine, closeLine}
+use Rattle.report.specs.Feeding.{Step, feedUsed, feedState, feedWork, feedLine, closeLine}
 
 -- from a state and a work buffer, over the bytes that the calls use, to the bytes that they write; each call has an input, and an
 -- output buffer, of its own
-pub data Run : Report → List ℕ → List ℕ → List ℕ → Type 0 where
+pub data ReportRun : Report → List ℕ → List ℕ → List ℕ → Type 0 where
   closed : {s : Report} {w out′ : List ℕ} (out : List ℕ) (written : ℕ)
       → lineRoom ≤ length out
       → written ≡ length (closeLine s (length out))
       → out′ ≡ sets out 0 (closeLine s (length out))
-      → Run s w [] (take written out′)
+      → ReportRun s w [] (take written out′)
   fed : {s : Report} {w w′ out′ image text : List ℕ} (input out : List ℕ) (r : Fed)
       → r .used ≡ feedUsed s input w (length out)
       → r .state ≡ feedState s input w (length out)
       → r .written ≡ length (feedLine s input w (length out))
       → w′ ≡ feedWork s input w (length out)
       → out′ ≡ sets out 0 (feedLine s input w (length out))
-      → Run (r .state) w′ image text
-      → Run s w (take (r .used) input ++ image) (take (r .written) out′ ++ text)
+      → ReportRun (r .state) w′ image text
+      → ReportRun s w (take (r .used) input ++ image) (take (r .written) out′ ++ text)
+
+-- a step is part of runs: every run from where it ends is one from where it began, over what it used of the input, and what it wrote
+abbrev pub StepRuns : Report → List ℕ → List ℕ → Step → Type 0
+StepRuns s w input step =
+    (image text : List ℕ) → ReportRun (step .state) (step .work) image text → ReportRun s w (take (step .used) input ++ image) (step .line ++ text)

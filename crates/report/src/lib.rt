@@ -1,10 +1,12 @@
 // The report of an image that comes in pieces: what is held between the calls, and the steps within a stripe.
 mod feeding;
+mod fills;
 mod stripes;
 
 pub use feeding::close;
 pub use feeding::feed;
 pub use feeding::new;
+pub use fills::fill;
 use scan::Scan;
 use tag::BLOCK;
 use verdict::Scrubbed;

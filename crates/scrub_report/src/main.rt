@@ -2,68 +2,36 @@
 use libc::STDIN_FILENO;
 use libc::STDOUT_FILENO;
 use report::Report;
-use xor::least;
-ghost use mathlib.Core.Path.{_≡_};
-ghost use Prim.Native.Nat.{_+_, _≤_, min};
-ghost use lib.ListN.{length};
 
-// A report's state, and how many bytes of the output buffer wait to be written.
-struct Passed {
-    state: Report,
-    waiting: usize,
-}
-
-// Writes what waits where less than a line's room is left, and answers how much then waits: a line fits behind it, in a buffer that can hold one.
-fn with_room(out: &[u8], waiting: usize) -> usize
-    ensures { λ r. ⌜ r + min 128 (length (now (out .entry))) ≤ length (now (out .entry)) ⌝ }
-{
-    if waiting <= out.len() {
-        if out.len() - waiting >= 128 {
-            return waiting;
-        }
-        io::write_all(STDOUT_FILENO, &out[0..waiting]);
-    }
-    0
-}
-
-// Feeds a piece of input, whole.
-fn pass(report: Report, waiting: usize, input: &[u8], work: &mut [u8], out: &mut [u8]) -> Passed
-    ensures { λ r. ⌜ r .waiting ≤ length (now (out .exit)) ⌝ }
-{
+// Fills the report with a piece of input until it is used up, and writes out the lines of each fill.
+fn pass(report: Report, input: &[u8], work: &mut [u8], out: &mut [u8]) -> Report {
     let mut state = report;
-    let mut filled = with_room(out, waiting);
     let mut at: usize = 0;
     while at < input.len() {
-        let fed = report::feed(state, &input[at..], work, &mut out[filled..]);
-        let used = least(fed.used, input.len() - at);
+        let fed = report::fill(state, &input[at..], work, out);
+        let written = fed.written;
+        io::write_all(STDOUT_FILENO, &out[0..written]);
+        state = fed.state;
+        let used = fed.used;
         if used == 0 {
             break;
         }
-        let written = least(fed.written, out.len() - filled);
-        state = fed.state;
         at += used;
-        filled = with_room(out, filled + written);
     }
-    Passed {
-        state: state,
-        waiting: filled,
-    }
+    state
 }
 
-// Closes the report, and writes all that waits.
-fn end(report: Report, waiting: usize, out: &mut [u8]) {
-    let filled = with_room(out, waiting);
-    let last = report::close(report, &mut out[filled..]);
-    let all = filled + least(last, out.len() - filled);
-    io::write_all(STDOUT_FILENO, &out[0..all]);
+// Closes the report, and writes out its last line.
+fn end(report: Report, out: &mut [u8]) {
+    let last = report::close(report, out);
+    io::write_all(STDOUT_FILENO, &out[0..last]);
 }
 
 fn main() {
     let mut input = io::large_buffer();
-    let mut out = io::large_buffer();
+    let mut out = [0u8; 512];
     let mut work = [0u8; 512];
     let mut state = report::new();
-    let mut waiting: usize = 0;
     let mut turns = u64::MAX;
     while turns > 0 {
         let got = libc::read(STDIN_FILENO, &mut input);
@@ -71,10 +39,8 @@ fn main() {
         if count == 0 {
             break;
         }
-        let passed = pass(state, waiting, &input[..count], &mut work, &mut out);
-        state = passed.state;
-        waiting = passed.waiting;
+        state = pass(state, &input[..count], &mut work, &mut out);
         turns -= 1;
     }
-    end(state, waiting, &mut out);
+    end(state, &mut out);
 }

@@ -1,24 +1,19 @@
--- `scrub_report::main` is safe and ends. The invariant: the buffers keep their lengths, and what waits lies within one.
--- Assumes nothing.
+-- `scrub_report::main` is safe and ends. The invariant: the buffers keep their lengths. Assumes nothing.
 use mathlib.Core.Path.{_≡_}
-use Prim.Native.Nat.{_≤_}
 use lib.ListN.{length}
 use borrow.Author.Needs.{needs}
 use Rattle.scrub_report.proofs.main.Statement.{statement}
 use Rattle.scrub_report.proofs.main.Tie as tie
 
 abbrev Inv-loop : tie.InvT-loop
-Inv-loop input₀ out₀ work₀ state₀ waiting₀ turns₀ input out work state waiting turns =
-    (length input ≡ 65536) × (length out ≡ 65536) × (length work ≡ 512) × (waiting ≤ 65536)
+Inv-loop input₀ out₀ work₀ state₀ turns₀ input out work state turns =
+    (length input ≡ 65536) × (length out ≡ 512) × (length work ≡ 512)
 
 abbrev μ-loop : tie.MeasureT-loop
-μ-loop input₀ out₀ work₀ state₀ waiting₀ turns₀ input out work state waiting turns = turns
+μ-loop input₀ out₀ work₀ state₀ turns₀ input out work state turns = turns
 
 large-buffer-requires : tie.Need-large-buffer-requires Inv-loop μ-loop
 large-buffer-requires c κs = search needs
-
-large-buffer-requires-2 : tie.Need-large-buffer-requires-2 Inv-loop μ-loop
-large-buffer-requires-2 c κs = search needs
 
 new-requires : tie.Need-new-requires Inv-loop μ-loop
 new-requires c κs = search needs
@@ -78,7 +73,6 @@ main-spec =
     Inv-loop
     μ-loop
     large-buffer-requires
-    large-buffer-requires-2
     new-requires
     loop-holds
     slice-aggregate-read

@@ -1,79 +1,73 @@
--- `scrub_report::pass` meets its contract. The invariant: the places stay within the input and the output buffer.
--- Assumes nothing.
-use mathlib.Core.Path.{_≡_, refl, sym, ap, _∙_}
-use Prim.Native.Nat.{ℕ, _+_, _-_, _≤_, _<_}
+-- `scrub_report::pass` is safe and ends. The invariant: what is used stays within the input, and the buffers keep their lengths. The measure
+-- is what is left of the input. Assumes nothing.
+use mathlib.Core.Path.{_≡_}
+use mathlib.Core.List.{List}
+use Prim.Native.Nat.{ℕ, _+_, _-_, _≤_}
 use native.Mathlib.Omega.{arith}
-use lib.ListN.{length, length-append, length-take, length-drop}
 use borrow.Author.Needs.{needs}
+use lib.ListN.{length, take, drop, length-take, length-drop}
+use Rattle.report.proofs.FillRuns.{filled-uses, filled-writes}
 use Rattle.scrub_report.proofs.pass.Statement.{statement}
 use Rattle.scrub_report.proofs.pass.Tie as tie
 
+-- what a fill uses of the rest of the input
+within-input : (input : List ℕ) (at used : ℕ) → at ≤ length input → used ≤ length (take (length input - at) (drop at input)) → at + used ≤ length input
+within-input input at used h l =
+    let few = simp (length-take, length-drop) at l in
+    omega arith
+
 abbrev Inv-loop : tie.InvT-loop
-Inv-loop waiting input work₀ out₀ state₀ filled₀ at₀ work out state filled at =
-    (at ≤ length input) × (filled ≤ length out) × (length out ≡ length out₀) × (length work ≡ length work₀)
+Inv-loop input work₀ out₀ state₀ at₀ work out state at =
+    (at ≤ length input) × (length out ≡ length out₀) × (length work ≡ length work₀)
 
 abbrev μ-loop : tie.MeasureT-loop
-μ-loop waiting input work₀ out₀ state₀ filled₀ at₀ work out state filled at = length input - at
-
-with-room-requires : tie.Need-with-room-requires Inv-loop μ-loop
-with-room-requires c κs = search needs
+μ-loop input work₀ out₀ state₀ at₀ work out state at = length input - at
 
 loop-holds : tie.Need-loop-holds Inv-loop μ-loop
 loop-holds c = search needs
 
-sub-feed : tie.Need-sub-feed Inv-loop μ-loop
-sub-feed c = search needs
+sub-fill : tie.Need-sub-fill Inv-loop μ-loop
+sub-fill c = search needs
 
-part-feed-start : tie.Need-part-feed-start Inv-loop μ-loop
-part-feed-start c = search needs
+part-fill-start : tie.Need-part-fill-start Inv-loop μ-loop
+part-fill-start c = search needs
 
-part-feed-end : tie.Need-part-feed-end Inv-loop μ-loop
-part-feed-end c = search needs
+part-fill-end : tie.Need-part-fill-end Inv-loop μ-loop
+part-fill-end c = search needs
 
-sub-feed-2 : tie.Need-sub-feed-2 Inv-loop μ-loop
-sub-feed-2 c = search needs
+fill-requires : tie.Need-fill-requires Inv-loop μ-loop
+fill-requires c κs = search needs
 
-part-feed-start-2 : tie.Need-part-feed-start-2 Inv-loop μ-loop
-part-feed-start-2 c = search needs
+sub-write-all : tie.Need-sub-write-all Inv-loop μ-loop
+sub-write-all c = search needs
 
-part-feed-end-2 : tie.Need-part-feed-end-2 Inv-loop μ-loop
-part-feed-end-2 c = search needs
+part-write-all-start : tie.Need-part-write-all-start Inv-loop μ-loop
+part-write-all-start c = search needs
 
-feed-requires : tie.Need-feed-requires Inv-loop μ-loop
-feed-requires c κs = search needs
+part-write-all-end : tie.Need-part-write-all-end Inv-loop μ-loop
+part-write-all-end c =
+    let few = filled-writes _ _ _ (c .before .before .before .before .before .fill .ensures) in
+    search needs
 
-sub-least : tie.Need-sub-least Inv-loop μ-loop
-sub-least c = search needs
-
-least-requires : tie.Need-least-requires Inv-loop μ-loop
-least-requires c κs = search needs
-
-sub-least-2 : tie.Need-sub-least-2 Inv-loop μ-loop
-sub-least-2 c = search needs
-
-least-requires-2 : tie.Need-least-requires-2 Inv-loop μ-loop
-least-requires-2 c κs = search needs
+write-all-requires : tie.Need-write-all-requires Inv-loop μ-loop
+write-all-requires c κs = search needs
 
 add-at : tie.Need-add-at Inv-loop μ-loop
 add-at c =
-    let l = c .before .before .before in
-    let s = c .before .before .before .before .before .before .before .before .before .before .before .before .before .before .before .before .before .before .before in
-    omega (arith, l .least .ensures, c .before .before .before .before .before .before .before .before .before .before .before .before .before .loop .inv .0, s .good .1 .1 .0 .0)
-
-add-with-room : tie.Need-add-with-room Inv-loop μ-loop
-add-with-room c =
-    let l = c .before .before in
-    let s = c .before .before .before .before .before .before .before .before .before .before .before .before .before .before .before .before .before .before .before .before in
-    omega (arith, l .least2 .ensures, l .before, c .before .before .before .before .before .before .before .before .before .before .before .before .before .before .loop .inv, s .good .1 .1 .1 .1 .0 .0)
-
-with-room-requires-2 : tie.Need-with-room-requires-2 Inv-loop μ-loop
-with-room-requires-2 c κs = search needs
+    let s = c .before .before .before .before .before .before .before .before .before .before .before .before .before .before .before .before .before .before in
+    let l = c .before .before .before .before .before .before .before .before .before .before .before .before .before .before .loop in
+    let f = c .before .before .before .before .before .before .before .before .before .fill in
+    omega (arith, within-input (s .args .input .now) (l .at) (f .result .used) (l .inv .0) (filled-uses _ _ _ (f .ensures)), s .good .1 .0 .0)
 
 loop-less : tie.Need-loop-less Inv-loop μ-loop
 loop-less c = search needs
 
 loop-again : tie.Need-loop-again Inv-loop μ-loop
-loop-again c = search needs
+loop-again c =
+    let s = c .before .before .before .before .before .before .before .before .before .before .before .before .before .before .before .before .before .before in
+    let l = c .before .before .before .before .before .before .before .before .before .before .before .before .before .before .loop in
+    let f = c .before .before .before .before .before .before .before .before .before .fill in
+    (within-input (s .args .input .now) (l .at) (f .result .used) (l .inv .0) (filled-uses _ _ _ (f .ensures)), search needs, search needs)
 
 same-length : tie.Need-same-length Inv-loop μ-loop
 same-length c = search needs
@@ -99,22 +93,16 @@ pass-spec =
     (tie.spec
     Inv-loop
     μ-loop
-    with-room-requires
     loop-holds
-    sub-feed
-    part-feed-start
-    part-feed-end
-    sub-feed-2
-    part-feed-start-2
-    part-feed-end-2
-    feed-requires
-    sub-least
-    least-requires
-    sub-least-2
-    least-requires-2
+    sub-fill
+    part-fill-start
+    part-fill-end
+    fill-requires
+    sub-write-all
+    part-write-all-start
+    part-write-all-end
+    write-all-requires
     add-at
-    add-with-room
-    with-room-requires-2
     loop-less
     loop-again
     same-length
