@@ -1,5 +1,6 @@
 -- The quick scrub beside the scan: where the history is whole after some calls, and its verdict finds no bad member, the quick scrub of
 -- the stored guards fits if the data combine to zero, and differs if their combination has all its one bits within sixteen successive ones.
+-- So, where the answers to a list of calls are the history's, all of CutAnywhere holds of them.
 -- Assumes nothing.
 use mathlib.Core.Path.{_≡_, refl, sym, ap, _∙_}
 use mathlib.Core.Logic.{_≢_}

@@ -25,21 +25,23 @@ use Rattle.scan.proofs.taking.piece.Reads as piece-reads
 use Rattle.scan.proofs.finishing.finish.Kinds as finish-kinds
 use Rattle.scan.proofs.finishing.finish.Reads as finish-reads
 
--- a call of `piece` with the arguments a (state, member, bytes, work buffer), which returned r and left the buffers as e has them
+-- A call is its arguments a, its result r, and e, what its borrows hold at the end; both a and e are in the order of the parameters.
+-- Of `piece`: .0 the state, .1 .0 the member, .1 .1 .0 the bytes, .1 .1 .1 .0 the work buffer
 module _ (κs : Lfts 2) (a : Dens κs piece-kinds.ps) (r : Taken) (e : AtExit (endedOf 2 piece-kinds.ps piece-kinds.r) κs) where
   pub piece-runs : piece-reads.Learnt κs a r e → {calls : List Call} {xs : List (List ℕ)} {last : Scan} {left : List ℕ}
       → ScanRun (r .state) (e .1 .1 .1 .0 .now) calls xs last left
       → ScanRun (a .0) (a .1 .1 .1 .0 .now) (piece (a .1 .0) (a .1 .1 .0 .now) ∷ calls) ((r .refusal ∷ []) ∷ xs) last left
   piece-runs promised run = pieced r (promised .0) (promised .1 .0) (promised .1 .1) run
 
--- a call of `finish` (state, work buffer), which changes neither
+-- of `finish`: .0 the state, .1 .0 the work buffer, which stays as it is
 module _ (κs : Lfts 1) (a : Dens κs finish-kinds.ps) (r : Scrubbed) (e : AtExit (endedOf 1 finish-kinds.ps finish-kinds.r) κs) where
   pub finish-runs : finish-reads.Learnt κs a r e → {calls : List Call} {xs : List (List ℕ)} {last : Scan} {left : List ℕ}
       → ScanRun (a .0) (a .1 .0 .now) calls xs last left
       → ScanRun (a .0) (a .1 .0 .now) (finish ∷ calls) (scrubbedNumbers r ∷ xs) last left
   finish-runs promised run = finished r promised run
 
--- a call of `start` (array, stripe, work buffer) that is accepted, and any run of calls from the state and the buffer that it left
+-- of `start`: .0 the array, .1 .0 the stripe, .1 .1 .0 the work buffer. It is accepted, and any run of calls goes on from the state and the
+-- buffer that it left
 pub cut-anywhere : (κs : Lfts 1) (a : Dens κs start-kinds.ps) (r : Taken) (e : AtExit (endedOf 1 start-kinds.ps start-kinds.r) κs)
     → start-reads.Learnt κs a r e → r .refusal ≡ 0
     → {calls : List Call} {xs : List (List ℕ)} {last : Scan} {left : List ℕ} → ScanRun (r .state) (e .1 .1 .0 .now) calls xs last left

@@ -1,6 +1,5 @@
--- The theorem of the scan, over definitions: in every run of the calls from an accepted start, each call's answer is the history's.
--- `ScanRun` is the relation of specs/Runs; the history, in specs/History, is kept from the calls alone. Promised.antt sets it on the
--- code's own promises, with the quick scrub beside it: there demand 3 stands whole.
+-- The theorem of the scan: in every run of the calls from an accepted start, each call's answer is the history's.
+-- `ScanRun` is the relation of specs/Runs; the history, in specs/History, is kept from the calls alone.
 -- Assumes nothing.
 use mathlib.Core.Path.{_≡_}
 use mathlib.Core.List.{List}
@@ -24,3 +23,5 @@ pub run-answers-as-history : (a : Array) (stripe : ℕ) (old : List ℕ) → sta
     → xs ≡ answers (whole t10) (a .members) (scrubBlocks a stripe) (begun (a .members)) calls
 run-answers-as-history a stripe old accepted started cleared =
     run-answers a stripe (start-sound a stripe old accepted) (begun (a .members)) (start-holds a stripe old accepted started cleared)
+
+-- Promised.antt goes on from here: the runs are those of the code, by its own promises, and demand 3 stands there whole.
