@@ -1,13 +1,32 @@
--- Worked figures of the refusals: states written out, numbers computed from the definitions. Assumes nothing.
+-- Worked figures of the calls on any state: states written out, numbers computed from the definitions. Assumes nothing.
 use mathlib.Core.Path.{_≡_, refl}
 use mathlib.Core.Bool.{true, false}
-use mathlib.Core.List.{List, [], _∷_}
+use mathlib.Core.List.{List, [], _∷_, _++_}
 use Prim.Native.Nat.{ℕ}
 use lib.ListN.{replicate}
+use Rattle.xor.specs.Xors.{xors}
+use Rattle.crc.specs.Guard.{run}
 use Rattle.layout.specs.Arrays.{arrayRefusal, stripeRefusal}
 use Rattle.layout.specs.declared.Array.{Array}
 use Rattle.scan.specs.declared.Scan.{Scan}
-use Rattle.scan.specs.Scans.{startRefusal, emptyScan, startState, startWork, fit, pieceRefusal, pieceState, pieceWork, finishRefusal}
+use Rattle.scan.specs.Scans.{
+  dataOfPiece,
+  tagOfPiece,
+  positions,
+  registers,
+  tags,
+  buffer,
+  startRefusal,
+  emptyScan,
+  startState,
+  startWork,
+  fit,
+  pieceRefusal,
+  advanced,
+  pieceState,
+  pieceWork,
+  finishRefusal,
+}
 
 -- two stripes of three members
 abbrev three : Array
@@ -65,6 +84,25 @@ piece-at-the-end = (refl, refl)
 pub refused-piece : (pieceState (standing 0 0 0 0) 3 (9 ∷ []) 512 ≡ standing 0 0 0 0) × (pieceWork (standing 0 0 0 0) 0 (9 ∷ []) (8 ∷ 9 ∷ []) ≡ 8 ∷ 9 ∷ [])
 unfolding pieceState pieceWork pieceRefusal fit stripeRefusal arrayRefusal
 refused-piece = (refl, refl)
+
+-- on a state that no start gives a piece goes on from what it finds, and nothing else moves: for member 1, on register 1234h, a first byte
+-- of data; the last byte of its data and the first of its tag
+abbrev foundState : ℕ → ℕ → ℕ → Scan
+foundState position register byte =
+    record {
+      array = three;
+      stripe = 1;
+      at = 3 ∷ position ∷ 0 ∷ 4 ∷ 0 ∷ 0 ∷ 0 ∷ 0 ∷ 0 ∷ 0 ∷ 0 ∷ 0 ∷ 0 ∷ 0 ∷ 0 ∷ 0 ∷ [];
+      register = 5 ∷ register ∷ 6 ∷ 7 ∷ 0 ∷ 0 ∷ 0 ∷ 0 ∷ 0 ∷ 0 ∷ 0 ∷ 0 ∷ 0 ∷ 0 ∷ 0 ∷ 0 ∷ [];
+      tag = replicate 8 10 ++ (byte ∷ replicate 119 11);
+    }
+
+pub piece-goes-on : (pieceState (foundState 0 0x1234 11) 1 (1 ∷ []) 512 ≡ foundState 1 (run 0x1234 (1 ∷ [])) 11)
+    × (pieceWork (foundState 0 0x1234 11) 1 (1 ∷ []) (9 ∷ replicate 511 5) ≡ 8 ∷ replicate 511 5)
+    × (pieceState (foundState 511 0x1234 11) 1 (1 ∷ 12 ∷ []) 512 ≡ foundState 513 (run 0x1234 (1 ∷ [])) 12)
+    × (pieceWork (foundState 511 0x1234 11) 1 (1 ∷ 12 ∷ []) (replicate 511 5 ++ (9 ∷ [])) ≡ replicate 511 5 ++ (8 ∷ []))
+unfolding pieceState pieceWork pieceRefusal fit stripeRefusal arrayRefusal advanced positions registers tags buffer dataOfPiece tagOfPiece xors
+piece-goes-on = (refl, refl, refl, refl)
 
 -- ---- finish: 4 goes before 6, 6 before 8; what stands past the members does not matter
 
