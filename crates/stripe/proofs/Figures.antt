@@ -1,9 +1,16 @@
--- A stripe in memory is its members' blocks in member order, and data are their parts in index order: told by figures, since the
--- definitions of every job share them. Assumes nothing.
+-- What the definitions of every job share, told in figures: a stripe in memory is its members' blocks in member order, data are their
+-- parts in index order, and the refusals of each call come in their order. Assumes nothing.
 use mathlib.Core.Path.{_≡_, refl}
 use mathlib.Core.List.{List, [], _∷_}
 use Prim.Native.Nat.{ℕ}
+use Rattle.layout.specs.Arrays.{arrayRefusal, stripeRefusal, blockRefusal}
+use Rattle.layout.specs.Places.{ownerRefusal}
+use Rattle.layout.specs.declared.Array.{Array}
 use Rattle.stripe.specs.Tables.{table, joined, span, part}
+use Rattle.stripe.specs.Jobs.{sealRefusal, serveRefusal, readRefusal, rebuildRefusal, replaceRefusal, updateRefusal}
+use Rattle.stripe.specs.Verdicts.{scrubRefusal}
+
+-- ---- parts and blocks
 
 abbrev six : List ℕ
 six = 10 ∷ 11 ∷ 12 ∷ 13 ∷ 14 ∷ 15 ∷ []
@@ -14,3 +21,33 @@ parts-in-order = refl
 
 pub joined-in-order : joined ((10 ∷ 11 ∷ []) ∷ (12 ∷ 13 ∷ []) ∷ (14 ∷ 15 ∷ []) ∷ []) ≡ six
 joined-in-order = refl
+
+-- ---- refusals: first every number that is handed in is wrong, then one after the other is mended
+
+abbrev array : ℕ → ℕ → Array
+array members stripes = record { members = members; stripes = stripes; volume = 7 }
+
+pub seal-in-order : (sealRefusal (array 2 0) 1 0 0 ≡ 1) × (sealRefusal (array 3 0) 1 0 0 ≡ 2) × (sealRefusal (array 3 1) 1 0 0 ≡ 3)
+    × (sealRefusal (array 3 1) 0 0 0 ≡ 6) × (sealRefusal (array 3 1) 0 1024 0 ≡ 6) × (sealRefusal (array 3 1) 0 1024 1560 ≡ 0)
+unfolding sealRefusal stripeRefusal arrayRefusal
+seal-in-order = (refl, refl, refl, refl, refl, refl)
+
+pub read-in-order : (readRefusal (array 2 0) 2 [] 0 ≡ 1) × (readRefusal (array 3 0) 2 [] 0 ≡ 2) × (readRefusal (array 3 1) 2 [] 0 ≡ 3)
+    × (readRefusal (array 3 1) 0 [] 0 ≡ 6) × (readRefusal (array 3 1) 0 [] 512 ≡ 6)
+unfolding readRefusal serveRefusal blockRefusal arrayRefusal
+read-in-order = (refl, refl, refl, refl, refl)
+
+pub rebuild-in-order : (rebuildRefusal (array 2 0) 1 3 [] ≡ 1) × (rebuildRefusal (array 3 0) 1 3 [] ≡ 2) × (rebuildRefusal (array 3 1) 1 3 [] ≡ 3)
+    × (rebuildRefusal (array 3 1) 0 3 [] ≡ 5) × (rebuildRefusal (array 3 1) 0 0 [] ≡ 6)
+unfolding rebuildRefusal ownerRefusal stripeRefusal arrayRefusal
+rebuild-in-order = (refl, refl, refl, refl, refl)
+
+pub update-in-order : (updateRefusal (array 2 0) 2 0 [] ≡ 1) × (updateRefusal (array 3 0) 2 0 [] ≡ 2) × (updateRefusal (array 3 1) 2 0 [] ≡ 3)
+    × (updateRefusal (array 3 1) 0 0 [] ≡ 6) × (updateRefusal (array 3 1) 0 512 [] ≡ 6)
+unfolding updateRefusal replaceRefusal blockRefusal arrayRefusal
+update-in-order = (refl, refl, refl, refl, refl)
+
+pub scrub-in-order : (scrubRefusal (array 2 0) 1 0 ≡ 1) × (scrubRefusal (array 3 0) 1 0 ≡ 2) × (scrubRefusal (array 3 1) 1 0 ≡ 3)
+    × (scrubRefusal (array 3 1) 0 0 ≡ 6) × (scrubRefusal (array 3 1) 0 1560 ≡ 0)
+unfolding scrubRefusal stripeRefusal arrayRefusal
+scrub-in-order = (refl, refl, refl, refl, refl)
