@@ -1,5 +1,5 @@
 -- What the definitions of every job share, told in figures: a stripe in memory is its members' blocks in member order, data are their
--- parts in index order, and the refusals of each call come in their order. Assumes nothing.
+-- parts in index order, a read says stored or rebuilt, and the refusals of each call come in their order. Assumes nothing.
 use mathlib.Core.Path.{_≡_, refl}
 use mathlib.Core.List.{List, [], _∷_}
 use Prim.Native.Nat.{ℕ}
@@ -7,8 +7,9 @@ use Rattle.layout.specs.Arrays.{arrayRefusal, stripeRefusal, blockRefusal}
 use Rattle.layout.specs.Places.{ownerRefusal}
 use Rattle.layout.specs.declared.Array.{Array}
 use Rattle.stripe.specs.Tables.{table, joined, span, part}
-use Rattle.stripe.specs.Jobs.{sealRefusal, serveRefusal, readRefusal, rebuildRefusal, replaceRefusal, updateRefusal}
+use Rattle.stripe.specs.Jobs.{sealRefusal, serveRefusal, readRefusal, readingNumbers, rebuildRefusal, replaceRefusal, updateRefusal}
 use Rattle.stripe.specs.Verdicts.{scrubRefusal}
+use Rattle.stripe.specs.declared.Reading.the-variants.{Refused, Stored, Rebuilt}
 
 -- ---- parts and blocks
 
@@ -21,6 +22,11 @@ parts-in-order = refl
 
 pub joined-in-order : joined ((10 ∷ 11 ∷ []) ∷ (12 ∷ 13 ∷ []) ∷ (14 ∷ 15 ∷ []) ∷ []) ≡ six
 joined-in-order = refl
+
+-- ---- which name of the code stands for which numbers of a read
+
+pub read-names : (readingNumbers Stored ≡ 1 ∷ 0 ∷ 0 ∷ []) × (readingNumbers Rebuilt ≡ 1 ∷ 0 ∷ 1 ∷ []) × (readingNumbers (Refused 9) ≡ 0 ∷ 9 ∷ 0 ∷ [])
+read-names = (refl, refl, refl)
 
 -- ---- refusals: first every number that is handed in is wrong, then one after the other is mended
 

@@ -10,8 +10,9 @@ use Rattle.layout.specs.Places.{parityMember, lowestBlock, blockAt, indexAt, re
 use Rattle.layout.specs.declared.Array.{Array}
 use Rattle.tag.specs.Numbers.{bytesOf}
 use Rattle.tag.specs.Blocks.{blockLength, tagOf}
-use Rattle.tag.specs.Tags.{tagBytes, found, applicationDue, referenceDue, due, firstWrong}
+use Rattle.tag.specs.Tags.{tagBytes, found, applicationDue, referenceDue, due, firstWrong, checkedNumbers}
 use Rattle.tag.specs.declared.Fields.{Fields}
+use Rattle.tag.specs.declared.Checked.the-variants.{Good, Guard, Application, Reference}
 use Rattle.tag.proofs.Numbers.{take-elements, number-of-two, number-of-four}
 
 -- ---- the sealed stripe of the outline: three members, volume 7, stripe 0; its parity, then its two blocks
@@ -62,3 +63,7 @@ pub wrong-fields : (firstWrong (fields 5 6 7) (fields 1 2 3) ≡ 1 ∷ 5 ∷ 1 �
     × (firstWrong (fields 1 2 3) (fields 1 2 3) ≡ 0 ∷ 0 ∷ 0 ∷ [])
 unfolding firstWrong
 wrong-fields = (refl, refl, refl, refl)
+
+pub check-names : (checkedNumbers Good ≡ 1 ∷ 0 ∷ 0 ∷ 0 ∷ 0 ∷ []) × (checkedNumbers (Guard 5 1) ≡ 1 ∷ 0 ∷ 1 ∷ 5 ∷ 1 ∷ [])
+    × (checkedNumbers (Application 6 2) ≡ 1 ∷ 0 ∷ 2 ∷ 6 ∷ 2 ∷ []) × (checkedNumbers (Reference 7 3) ≡ 1 ∷ 0 ∷ 3 ∷ 7 ∷ 3 ∷ [])
+check-names = (refl, refl, refl, refl)

@@ -3,3 +3,4 @@ pub mod Greatest
 pub mod Verdicts
 pub mod Quick
 pub mod Injective
+pub mod Figures

@@ -1,0 +1,28 @@
+-- Verdicts and quick scrubs in figures: which number says what, and which name of the code stands for it. Assumes nothing.
+use mathlib.Core.Path.{_≡_, refl}
+use mathlib.Core.Bool.{Bool, true, false}
+use mathlib.Core.List.{List, [], _∷_}
+use Rattle.verdict.specs.Verdicts.{judgedBy, judged, verdictNumbers, quickRefusal, quickNumbers, comparedNumbers}
+use Rattle.verdict.specs.declared.Verdict.the-variants.{Clean, Bad, Torn}
+use Rattle.verdict.specs.declared.Compared.the-variants.{Fits, Differs}
+
+abbrev none : List Bool
+none = false ∷ false ∷ false ∷ []
+
+-- clean; two bad members, the lowest 1; torn at place 2; bad and torn, which is bad
+pub verdicts : (judged none none ≡ 0 ∷ 0 ∷ 0 ∷ []) × (judged (false ∷ true ∷ true ∷ []) none ≡ 1 ∷ 1 ∷ 2 ∷ [])
+    × (judged none (false ∷ false ∷ true ∷ []) ≡ 2 ∷ 2 ∷ 0 ∷ []) × (judged (false ∷ false ∷ true ∷ []) (true ∷ true ∷ []) ≡ 1 ∷ 2 ∷ 1 ∷ [])
+unfolding judged judgedBy
+verdicts = (refl, refl, refl, refl)
+
+pub verdict-names : (verdictNumbers Clean ≡ 0 ∷ 0 ∷ 0 ∷ []) × (verdictNumbers (Bad 1 2) ≡ 1 ∷ 1 ∷ 2 ∷ []) × (verdictNumbers (Torn 2) ≡ 2 ∷ 2 ∷ 0 ∷ [])
+verdict-names = (refl, refl, refl)
+
+-- guards that combine to zero; to 7; too few of them
+pub quick-scrubs : (quickNumbers (0x8BB7 ∷ 0x1772 ∷ 0x9CC5 ∷ []) ≡ 1 ∷ 0 ∷ 0 ∷ 0 ∷ []) × (quickNumbers (1 ∷ 2 ∷ 4 ∷ []) ≡ 1 ∷ 0 ∷ 1 ∷ 7 ∷ [])
+    × (quickNumbers (1 ∷ 2 ∷ []) ≡ 0 ∷ 1 ∷ 0 ∷ 0 ∷ [])
+unfolding quickNumbers quickRefusal
+quick-scrubs = (refl, refl, refl)
+
+pub quick-names : (comparedNumbers Fits ≡ 1 ∷ 0 ∷ 0 ∷ 0 ∷ []) × (comparedNumbers (Differs 7) ≡ 1 ∷ 0 ∷ 1 ∷ 7 ∷ [])
+quick-names = (refl, refl)
