@@ -37,6 +37,20 @@ pub record Does (step : Step) (answer : Fed) (work out outAfter : List ℕ) : Ty
 abbrev pub tallyOf : Report → Tally
 tallyOf r = record { clean = r .clean; bad = r .bad; torn = r .torn }
 
+-- ---- the stages: the header is coming; the stripes are; all stripes have come; the last line is written
+
+abbrev pub headerStage : ℕ
+headerStage = 0
+
+abbrev pub stripesStage : ℕ
+stripesStage = 1
+
+abbrev pub behindStage : ℕ
+behindStage = 2
+
+abbrev pub endedStage : ℕ
+endedStage = 3
+
 -- ---- states: with more bytes held, of the header or by the scan; at the start of a stage or of a stripe; with the last line written
 
 abbrev pub holding : Report → List ℕ → ℕ → Scan → Report
@@ -49,7 +63,7 @@ entering stage header scan t =
 
 abbrev pub ended : Report → Report
 ended r =
-    record { stage = 3; header = r .header; have = r .have; scan = r .scan; clean = r .clean; bad = r .bad; torn = r .torn }
+    record { stage = endedStage; header = r .header; have = r .have; scan = r .scan; clean = r .clean; bad = r .bad; torn = r .torn }
 
 -- ---- the header
 
@@ -58,7 +72,7 @@ unfoldable pub headerWhole : ℕ → Report → List ℕ → Step
 headerWhole used r work =
     let a = arrayIn (r .header) in
     cond (eqb (headerRefusal (r .header)) 0)
-    (record { used = used; state = entering 1 (r .header) (startState a 0 (length work)) none; work = startWork a 0 work; line = firstLine a })
+    (record { used = used; state = entering stripesStage (r .header) (startState a 0 (length work)) none; work = startWork a 0 work; line = firstLine a })
     (record { used = used; state = ended r; work = work; line = refusedLine (headerRefusal (r .header)) })
 
 -- bytes of the header
@@ -93,8 +107,8 @@ stripeJudged used r work verdict =
     let line = stripeLine (r .scan .stripe) verdict in
     let tally = counted (tallyOf r) verdict in
     cond (ltb next (a .stripes))
-    (record { used = used; state = entering 1 (r .header) (startState a next (length work)) tally; work = startWork a next work; line = line })
-    (record { used = used; state = entering 2 (r .header) (r .scan) tally; work = work; line = line })
+    (record { used = used; state = entering stripesStage (r .header) (startState a next (length work)) tally; work = startWork a next work; line = line })
+    (record { used = used; state = entering behindStage (r .header) (r .scan) tally; work = work; line = line })
 
 -- the stripe is whole, with the scan's answer in numbers; where the scan refuses to judge, its refusal number, and the report is over
 unfoldable pub stripeWhole : ℕ → Report → List ℕ → List ℕ → Step
@@ -117,25 +131,35 @@ stripeTook r bytes work =
 abbrev pub blockLacks : Report → ℕ
 blockLacks r = blockLength - r .have % blockLength
 
--- ---- feed
+-- ---- feed: a step for each stage
 
-abbrev pub idle : Report → List ℕ → Step
-idle r work = record { used = 0; state = r; work = work; line = [] }
+-- the header takes what it lacks
+abbrev pub headerStep : Report → List ℕ → List ℕ → Step
+headerStep r input work = headerTook r (take (headerLacks r) input) work
 
 -- the whole input passed over
 abbrev pub skipped : Report → List ℕ → List ℕ → Step
 skipped r input work = record { used = length input; state = r; work = work; line = [] }
 
+-- the block that comes now takes what it lacks; an unfit state, which no run leads to, passes the input over
+abbrev pub stripeStep : Report → List ℕ → List ℕ → Step
+stripeStep r input work = cond (stripeFit r) (stripeTook r (take (blockLacks r) input) work) (skipped r input work)
+
 -- behind the last stripe any byte is one too many
 abbrev pub tooLong : Report → List ℕ → List ℕ → Step
 tooLong r input work = record { used = length input; state = ended r; work = work; line = refusedLine 11 }
 
--- by the stage
+-- by the stage; when the last line is written, all that comes is passed over
 unfoldable pub stageStep : Report → List ℕ → List ℕ → Step
 stageStep r input work =
-    cond (eqb (r .stage) 0) (headerTook r (take (headerLacks r) input) work)
-    (cond (eqb (r .stage) 1) (cond (stripeFit r) (stripeTook r (take (blockLacks r) input) work) (skipped r input work))
-    (cond (eqb (r .stage) 2) (tooLong r input work) (skipped r input work)))
+    cond (eqb (r .stage) headerStage) (headerStep r input work)
+    (cond (eqb (r .stage) stripesStage) (stripeStep r input work)
+    (cond (eqb (r .stage) behindStage) (tooLong r input work)
+    (skipped r input work)))
+
+-- nothing done
+abbrev pub idle : Report → List ℕ → Step
+idle r work = record { used = 0; state = r; work = work; line = [] }
 
 -- of a state, an input, a work buffer, and the room for output
 unfoldable pub feedStep : Report → List ℕ → List ℕ → ℕ → Step
@@ -158,10 +182,11 @@ feedLine r input work room = feedStep r input work room .line
 unfoldable pub closeLine : Report → ℕ → List ℕ
 closeLine r room =
     cond (ltb room lineRoom) []
-    (cond (eqb (r .stage) 0) (refusedLine 10)
-    (cond (eqb (r .stage) 1) (refusedLine 11) (cond (eqb (r .stage) 2) (totalLine (r .scan .array) (tallyOf r)) [])))
+    (cond (eqb (r .stage) headerStage) (refusedLine 10)
+    (cond (eqb (r .stage) stripesStage) (refusedLine 11)
+    (cond (eqb (r .stage) behindStage) (totalLine (r .scan .array) (tallyOf r)) [])))
 
 -- ---- new
 
 unfoldable pub freshReport : Report
-freshReport = entering 0 (replicate headerLength 0) (emptyScan noArray 0) none
+freshReport = entering headerStage (replicate headerLength 0) (emptyScan noArray 0) none

@@ -12,11 +12,10 @@ use scan::Scan;
 use tag::BLOCK;
 use xor::least;
 ghost use mathlib.Core.Path.{_≡_};
-ghost use mathlib.Core.Bool.{cond};
 ghost use Prim.Native.Nat.{_+_, _-_, _≤_};
-ghost use lib.ListN.{length, take};
+ghost use lib.ListN.{length};
 ghost use lib.Seq.{sets};
-ghost use Rattle.report.specs.Feeding.{Does, holding, headerWhole, headerTook, headerLacks, stripeFit, stripeTook, blockLacks, skipped, stageStep, feedStep, closeLine, freshReport};
+ghost use Rattle.report.specs.Feeding.{Does, holding, headerWhole, headerTook, headerStep, stripeStep, stageStep, feedStep, closeLine, freshReport};
 
 // The state of a new report.
 pub fn new() -> Report
@@ -121,7 +120,7 @@ fn less(a: usize, b: usize) -> usize
 // Takes of the input what the header lacks.
 fn header_step(report: Report, input: &[u8], work: &mut [u8], out: &mut [u8]) -> Fed
     requires { ⌜ 128 ≤ length (now out) ⌝ }
-    ensures { λ r. ⌜ Does (headerTook report (take (headerLacks report) (now (input .entry))) (now (work .entry))) r (now (work .exit)) (now (out .entry)) (now (out .exit)) ⌝ }
+    ensures { λ r. ⌜ Does (headerStep report (now (input .entry)) (now (work .entry))) r (now (work .exit)) (now (out .entry)) (now (out .exit)) ⌝ }
 {
     let have = report.have;
     let lacks = less(HEADER, have);
@@ -132,7 +131,7 @@ fn header_step(report: Report, input: &[u8], work: &mut [u8], out: &mut [u8]) ->
 // Takes of the input what the block lacks that comes now; an unfit state passes it over.
 fn stripe_step(report: Report, input: &[u8], work: &mut [u8], out: &mut [u8]) -> Fed
     requires { ⌜ 128 ≤ length (now out) ⌝ }
-    ensures { λ r. ⌜ Does (cond (stripeFit report) (stripeTook report (take (blockLacks report) (now (input .entry))) (now (work .entry))) (skipped report (now (input .entry)) (now (work .entry)))) r (now (work .exit)) (now (out .entry)) (now (out .exit)) ⌝ }
+    ensures { λ r. ⌜ Does (stripeStep report (now (input .entry)) (now (work .entry))) r (now (work .exit)) (now (out .entry)) (now (out .exit)) ⌝ }
 {
     let have = report.have;
     let fit = stripe_fit(report);

@@ -17,7 +17,7 @@ use std::sync::mpsc::{self, Receiver, Sender};
 /// The shortest length of the image that goes through a pipe, and of the one that is read from a file.
 const PIPED: usize = 256 << 20;
 const FILED: usize = 8 << 20;
-/// The program's buffers are this long.
+/// The program's input buffer is this long.
 const BUFFER: usize = 64 << 10;
 /// The most memory that the program may hold, and the most that it may hold more at the end than after the first MiB; in KiB.
 const MOST: u64 = 4_096;
@@ -170,7 +170,7 @@ fn unnamed_file(fill: impl FnOnce(&mut dyn Write) -> io::Result<()>) -> io::Resu
     filled.and(file)
 }
 
-/// From a file every read fills the program's buffer, so that its edges are those at which the damage lies.
+/// From a file every read fills the program's input buffer, so that its edges are those at which the damage lies.
 fn filed(random: &mut Random) -> Outcome<String> {
     let stripes = Stripes::of(FILED, random);
     let mut report = Report::open(stripes.array);
