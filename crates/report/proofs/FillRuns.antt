@@ -162,13 +162,13 @@ module _ (r : Report) (input w : List ℕ) (room : ℕ) (here : Standing r w) wh
   unfolding fillStep
   fill-stands = calls-stand (suc (length input)) r input w room here
 
-  pub fill-goes-on : lineRoom ≤ room → 0 < length input → 0 < fillStep r input w room .used
+  pub standing-goes-on : lineRoom ≤ room → 0 < length input → 0 < fillStep r input w room .used
   unfolding fillStep fillSteps
-  fill-goes-on wide some =
+  standing-goes-on wide some =
       let more : 0 < feedStep r input w room .used = feed-leads r input w room (here .place) (here .stands) .goes wide some in
       rw (ne-eqb (feedStep r input w room .used) 0 (λ e. omega arith)) (omega arith)
 
   -- where a line would still have room, all of the input was used
-  pub fill-uses-all : lineRoom + length (fillStep r input w room .line) ≤ room → fillStep r input w room .used ≡ length input
+  pub standing-uses-all : lineRoom + length (fillStep r input w room .line) ≤ room → fillStep r input w room .used ≡ length input
   unfolding fillStep
-  fill-uses-all l = calls-use-all (suc (length input)) r input w room here (omega arith) l
+  standing-uses-all l = calls-use-all (suc (length input)) r input w room here (omega arith) l

@@ -16,7 +16,7 @@ use Rattle.report.specs.Fills.{fillStep, fillAll, fedText}
 use Rattle.report.specs.Runs.{ReportRun, closed, StepRuns}
 use Rattle.report.proofs.Storing.{written-there}
 use Rattle.report.proofs.Within.{close-fits}
-use Rattle.report.proofs.FillRuns.{both-run, fill-runs, Standing, fill-stands, fill-goes-on}
+use Rattle.report.proofs.FillRuns.{both-run, fill-runs, Standing, fill-stands, standing-goes-on}
 
 fewer : (n used calls : ℕ) → n ≤ suc calls → (0 < n → 0 < used) → n - used ≤ calls
 fewer zero used calls h goes = omega arith
@@ -44,7 +44,7 @@ module _ (out : List ℕ) (wide : lineRoom ≤ length out) where
   fills-use-all zero r input w here l = omega arith
   fills-use-all (suc fills) r input w here l =
       let first = fillStep r input w (length out) in
-      let goes = fill-goes-on r input w (length out) here wide in
+      let goes = standing-goes-on r input w (length out) here wide in
       let left : length (drop (first .used) input) ≤ fills = rw length-drop (fewer (length input) (first .used) fills l goes) in
       let rest = rw length-drop at (fills-use-all fills (first .state) (drop (first .used) input) (first .work) (fill-stands r input w (length out) here) left) in
       omega arith

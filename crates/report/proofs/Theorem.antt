@@ -5,7 +5,7 @@
 -- Assumes nothing.
 use mathlib.Core.Path.{_≡_, sym, ap, ap₂, refl, _∙_, subst}
 use mathlib.Core.List.{List, [], _++_}
-use Prim.Native.Nat.{ℕ, _≤_}
+use Prim.Native.Nat.{ℕ, _+_, _≤_, _<_}
 use lib.ListN.{length, take, replicate, length-replicate}
 use Rattle.tag.specs.Blocks.{dataLength}
 use Rattle.stripe.specs.Tables.{joined}
@@ -13,14 +13,15 @@ use Rattle.lines.specs.Lines.{lineRoom}
 use Rattle.report.specs.declared.Report.{Report}
 use Rattle.report.specs.Reports.{reportOf}
 use Rattle.report.specs.Feeding.{freshReport, feedLine, closeLine}
-use Rattle.report.specs.Fills.{fedText}
-use Rattle.report.specs.Runs.{ReportRun, closed, fed}
+use Rattle.report.specs.Fills.{fillStep, fedText}
+use Rattle.report.specs.Runs.{ReportRun, closed, fed, Reached, begun, byFeed, byFill}
 use Rattle.report.proofs.Storing.{written-there}
 use Rattle.report.proofs.Stages.{Stage, inHeader, toSay, Stands}
 use Rattle.report.proofs.Beginning.{fresh-stands}
 use Rattle.report.proofs.Stepping.{feed-leads}
 use Rattle.report.proofs.Closing.{close-says}
 use Rattle.report.proofs.Within.{close-fits}
+use Rattle.report.proofs.FillRuns.{Standing, fill-stands, standing-goes-on, standing-uses-all}
 use Rattle.report.proofs.Occurring.{pieces-run}
 
 run-says : {s : Report} {w image text : List ℕ} → ReportRun s w image text → (g : Stage) → Stands g s w → text ≡ toSay g image
@@ -51,3 +52,22 @@ pieces-write-the-report room wide w long pieces =
     (run-writes-the-report refl long
     (pieces-run (replicate room 0) (rw (length-replicate {A = ℕ} room 0) wide) pieces freshReport w
     (record { place = inHeader []; stands = fresh-stands w long })))
+
+-- ---- and a loop of fills ends: wherever the calls lead to
+
+reached-stands : {s : Report} {w : List ℕ} → Reached s w → Standing s w
+reached-stands (begun {w = w} long) = record { place = inHeader []; stands = fresh-stands w long }
+reached-stands (byFeed {s = s} {w = w} input room before) =
+    let here = reached-stands before in
+    let m = feed-leads s input w room (here .place) (here .stands) in
+    record { place = m .to; stands = m .stands }
+reached-stands (byFill {s = s} {w = w} input room before) = fill-stands s input w room (reached-stands before)
+
+module _ {s : Report} {w : List ℕ} (reached : Reached s w) (input : List ℕ) (room : ℕ) where
+  -- a fill with an input and room for a line uses something
+  pub fill-goes-on : lineRoom ≤ room → 0 < length input → 0 < fillStep s input w room .used
+  fill-goes-on = standing-goes-on s input w room (reached-stands reached)
+
+  -- a fill that leaves room for a line has used all of its input
+  pub fill-uses-all : lineRoom + length (fillStep s input w room .line) ≤ room → fillStep s input w room .used ≡ length input
+  fill-uses-all = standing-uses-all s input w room (reached-stands reached)

@@ -1,4 +1,4 @@
 pub mod Reports
 pub mod Feeding
-pub mod Runs
 pub mod Fills
+pub mod Runs
