@@ -1,14 +1,15 @@
--- Images that are refused at their header, by computation: their reports, and what the calls write of one that is cut in three.
--- Assumes nothing.
+-- Images that are refused, at their header or at their end, by computation: their reports, and what the calls write of one that is cut in
+-- three. Assumes nothing.
 use mathlib.Core.Path.{_≡_, refl}
-use mathlib.Core.List.{List, [], _∷_}
+use mathlib.Core.List.{List, [], _∷_, _++_}
 use Prim.Native.Nat.{ℕ}
 use Rattle.layout.specs.Arrays.{arrayRefusal}
+use Rattle.layout.specs.declared.Array.{Array}
 use Rattle.tag.specs.Numbers.{numberOf}
 use Rattle.lines.specs.Text.{decimal, refusedWord}
-use Rattle.lines.specs.Lines.{refusedLine, lineRoom}
+use Rattle.lines.specs.Lines.{firstLine, refusedLine, Tally, lineRoom}
 use Rattle.lines.specs.Headers.{arrayIn, headerRefusal}
-use Rattle.report.specs.Reports.{reportOf}
+use Rattle.report.specs.Reports.{ending, stripeLines, reportOf}
 use Rattle.report.specs.Feeding.{headerWhole, headerTook, stageStep, feedStep, closeLine, freshReport}
 use Rattle.report.specs.Fills.{fillSteps, fillStep, fedText}
 
@@ -38,6 +39,20 @@ two-members = refl
 no-stripes : reportOf (0 ∷ 7 ∷ 1 ∷ 3 ∷ 7 ∷ 0 ∷ 0 ∷ 0 ∷ 0 ∷ []) ≡ refusedWith 0x32
 unfolding reportOf headerRefusal arrayRefusal arrayIn numberOf refusedLine refusedWord decimal refusedWith
 no-stripes = refl
+
+-- "REFUSED 11"
+refusedEleven : List ℕ
+refusedEleven = 0x52 ∷ 0x45 ∷ 0x46 ∷ 0x55 ∷ 0x53 ∷ 0x45 ∷ 0x44 ∷ 0x20 ∷ 0x31 ∷ 0x31 ∷ 0x0A ∷ []
+
+-- three members and one stripe, and no byte of it: the first line, and refusal 11
+ends-early : reportOf (0 ∷ 7 ∷ 1 ∷ 3 ∷ 7 ∷ 0 ∷ 0 ∷ 0 ∷ 1 ∷ []) ≡ firstLine (record { members = 3; stripes = 1; volume = 7 }) ++ refusedEleven
+unfolding reportOf stripeLines headerRefusal arrayRefusal arrayIn numberOf refusedLine refusedWord decimal refusedEleven
+ends-early = refl
+
+-- a byte behind the last stripe
+goes-on : (a : Array) (t : Tally) (byte : ℕ) (bytes : List ℕ) → ending a t (byte ∷ bytes) ≡ refusedEleven
+unfolding ending refusedLine refusedWord decimal refusedEleven
+goes-on a t byte bytes = refl
 
 -- two members, in three pieces, one of them empty, and two bytes after the header
 three-pieces : (w : List ℕ) → fedText lineRoom freshReport ((0 ∷ 7 ∷ []) ∷ [] ∷ (1 ∷ 2 ∷ 7 ∷ 0 ∷ 0 ∷ 0 ∷ 1 ∷ 9 ∷ 9 ∷ []) ∷ []) w ≡ refusedWith 0x31

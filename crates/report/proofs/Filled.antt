@@ -79,8 +79,8 @@ module _ {whole : Step} {input before : List ℕ} {r : Report} {w out : List ℕ
     {a : Fed} {v part : List ℕ}
     (given : Does (feedStep r (take (length input - at) (drop at input)) w (length (take (length out - filled) (drop filled out)))) a v
     (take (length out - filled) (drop filled out)) part) where
-  d : Does (feedStep r (drop at input) w (length before - filled)) a v (drop filled out) part
-  d =
+  does : Does (feedStep r (drop at input) w (length before - filled)) a v (drop filled out) part
+  does =
       let rest : length (drop filled out) ≡ length before - filled = length-drop filled out ∙ ap (λ (n : ℕ). n - filled) (f .size) in
       rw (
         take-all (length input - at) (drop at input) (rw length-drop (omega arith)),
@@ -100,29 +100,29 @@ module _ {whole : Step} {input before : List ℕ} {r : Report} {w out : List ℕ
   shown : after ≡ sets before 0 (f .lines ++ first .line)
   shown =
       rw (drop-of-length-le (drop filled out) {i = length out - filled} (rw length-drop (omega arith)), append-nil part)
-      (behind-them before (f .lines) (first .line) (f .long) (f .shows) (d .shows) (omega (arith, f .fits, within-first .fits)))
+      (behind-them before (f .lines) (first .line) (f .long) (f .shows) (does .shows) (omega (arith, f .fits, within-first .fits)))
 
   longer : filled + a .written ≡ length (f .lines ++ first .line)
-  longer = ap₂ (λ (x y : ℕ). x + y) (f .long) (d .writes) ∙ sym (length-append (f .lines) (first .line))
+  longer = ap₂ (λ (x y : ℕ). x + y) (f .long) (does .writes) ∙ sym (length-append (f .lines) (first .line))
 
   -- what was used and written stays within the buffers
   pub used-within : at + a .used ≤ length input
-  used-within = omega (arith, d .uses, within-first .uses, f .within)
+  used-within = omega (arith, does .uses, within-first .uses, f .within)
 
   pub written-within : filled + a .written ≤ length before
-  written-within = omega (arith, d .writes, within-first .fits, f .fits)
+  written-within = omega (arith, does .writes, within-first .fits, f .fits)
 
   -- a call that used nothing is the last
   pub all-filled : a .used ≡ 0
       → Does whole (record { state = a .state; used = at + a .used; written = filled + a .written }) v before after
   all-filled none =
-      let whole-is = left-last whole input (length before) (f .calls) r w (f .lines) at filled first refl (sym (d .uses) ∙ none)
+      let whole-is = left-last whole input (length before) (f .calls) r w (f .lines) at filled first refl (sym (does .uses) ∙ none)
       (omega (arith, f .enough, f .within)) (f .left) in
       rw whole-is record {
-        uses = ap (λ (n : ℕ). at + n) (d .uses);
-        leaves = d .leaves;
+        uses = ap (λ (n : ℕ). at + n) (does .uses);
+        leaves = does .leaves;
         writes = longer;
-        combines = d .combines;
+        combines = does .combines;
         shows = shown;
       }
 
@@ -142,6 +142,6 @@ module _ {whole : Step} {input before : List ℕ} {r : Report} {w out : List ℕ
         fits = written-within;
         shows = shown;
         size = ap length shown ∙ length-sets before 0 (f .lines ++ first .line);
-        left = rw (d .uses, d .leaves, d .combines, d .writes)
-            (left-after whole input (length before) calls r w (f .lines) at filled first refl (λ z. some (d .uses ∙ z)) left);
+        left = rw (does .uses, does .leaves, does .combines, does .writes)
+            (left-after whole input (length before) calls r w (f .lines) at filled first refl (λ z. some (does .uses ∙ z)) left);
       }

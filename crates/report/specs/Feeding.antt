@@ -18,14 +18,15 @@ use Rattle.report.specs.declared.Report.{Report}
 use Rattle.report.specs.declared.Fed.{Fed}
 use Rattle.report.specs.Reports.{none, counted}
 
--- what a call leaves: how many bytes of the input it used, the state, the work buffer, and the line that it wrote, [] where it wrote none
+-- what a call leaves: how many bytes of the input it used, the state, the work buffer, and the line that it wrote, [] where it wrote none;
+-- of several calls, their lines joined
 pub record Step : Type 0 where
   pub used : ℕ
   pub state : Report
   pub work : List ℕ
   pub line : List ℕ
 
--- a call does a step: its answer is the step's, the work buffer is, and the line stands at the start of the output buffer, whose other
+-- a call does a step: its answer is the step's, the work buffer is, and what it wrote stands at the start of the output buffer, whose other
 -- bytes stay
 pub record Does (step : Step) (answer : Fed) (work out outAfter : List ℕ) : Type 0 where
   pub uses : answer .used ≡ step .used

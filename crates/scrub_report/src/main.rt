@@ -13,6 +13,7 @@ fn pass(report: Report, input: &[u8], work: &mut [u8], out: &mut [u8]) -> Report
         io::write_all(STDOUT_FILENO, &out[0..written]);
         state = fed.state;
         let used = fed.used;
+        // Never so, by report's law fill-goes-on: the buffer has room for a line.
         if used == 0 {
             break;
         }
