@@ -6,8 +6,8 @@ use Prim.Native.Nat.{ℕ}
 use Rattle.xor.specs.Xors.{xors, addAll, combination}
 use Rattle.crc.specs.Crc.{bits, bitsOf, bitStep, feed}
 use Rattle.crc.specs.Guard.{run, guard}
-use Rattle.layout.specs.Arrays.{arrayRefusal, blockRefusal}
-use Rattle.layout.specs.Places.{parityMember, lowestBlock, blockAt, stripeOf, indexOf, memberAt, indexAt, referenceOf, placeNumbers}
+use Rattle.layout.specs.Arrays.{arrayOf, arrayRefusal, blockRefusal}
+use Rattle.layout.specs.Places.{parityMember, lowestBlock, blockAt, stripeOf, indexOf, memberAt, indexAt, referenceOf, blockNamed, placeNumbers}
 use Rattle.layout.specs.declared.Array.{Array}
 use Rattle.tag.specs.Numbers.{bytesOf}
 use Rattle.tag.specs.Tags.{referenceDue}
@@ -18,7 +18,7 @@ done stripe member = 1 ∷ 0 ∷ stripe ∷ member ∷ []
 
 -- five members, as many stripes as an array can have
 abbrev pub five : Array
-five = record { members = 5; stripes = 268435456; volume = 0 }
+five = arrayOf 5 268435456 0
 
 pub record Bench : Type 0 where
   pub guard-none : guard [] ≡ 0x0000
@@ -38,7 +38,7 @@ pub record Bench : Type 0 where
   pub combined : combination 1 ((0x9 ∷ []) ∷ (0x4 ∷ []) ∷ (0x8 ∷ []) ∷ (0xC ∷ []) ∷ []) ≡ 0x9 ∷ []
 
 pub bench : Bench
-unfolding guard run feed bitsOf bits bitStep addAll xors placeNumbers blockRefusal arrayRefusal stripeOf indexOf memberAt parityMember referenceDue referenceOf lowestBlock blockAt indexAt bytesOf
+unfolding guard run feed bitsOf bits bitStep addAll xors placeNumbers blockRefusal arrayRefusal stripeOf indexOf memberAt parityMember referenceDue referenceOf blockNamed lowestBlock blockAt indexAt bytesOf
 bench =
     record {
       guard-none = refl;

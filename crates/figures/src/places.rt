@@ -24,11 +24,7 @@ pub fn bench() {
 }
 
 fn array(members: usize) -> Array {
-    Array {
-        members,
-        stripes: MOST,
-        volume: 0,
-    }
+    layout::array_of(members, MOST, 0)
 }
 
 // One line: what is given, and its stripe and member, or the refusal.

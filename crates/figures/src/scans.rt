@@ -1,16 +1,11 @@
 // A scan of the bench table: a whole block in one piece, then a byte more, then none.
 use crate::text::named;
-use layout::Array;
 use libc::STDOUT_FILENO;
 use scan::Scan;
 
 pub fn pieces() {
     io::write_all(STDOUT_FILENO, b"\npiece for member 0           refusal\n");
-    let array = Array {
-        members: 3,
-        stripes: 1,
-        volume: 7,
-    };
+    let array = layout::array_of(3, 1, 7);
     let mut work = [0u8; 512];
     let block = [0u8; 520];
     let begun = scan::start(array, 0, &mut work);

@@ -12,11 +12,7 @@ use verdict::Verdict;
 
 // Three members, one stripe, volume 7.
 fn three() -> Array {
-    Array {
-        members: 3,
-        stripes: 1,
-        volume: 7,
-    }
+    layout::array_of(3, 1, 7)
 }
 
 // Data zero but for the last bytes 01 and 02; then block 0 updated to zeros.
@@ -27,15 +23,18 @@ pub fn sealed() {
     let mut bytes = [0u8; 1560];
     io::write_all(STDOUT_FILENO, b"\nsealed stripe, tag of        is\n");
     stripe::seal(three(), 0, &content, &mut bytes);
-    tags(&bytes);
-    reading(&bytes);
-    verdict(&bytes);
+    shown(&bytes);
     io::write_all(STDOUT_FILENO, b"block 0 updated, tag of      is\n");
     let zeros = [0u8; 512];
     stripe::update(three(), 0, &zeros, &mut bytes);
-    tags(&bytes);
-    reading(&bytes);
-    verdict(&bytes);
+    shown(&bytes);
+}
+
+// A stripe's tags, how its first block reads, and its verdict.
+fn shown(bytes: &[u8]) {
+    tags(bytes);
+    reading(bytes);
+    verdict(bytes);
 }
 
 // All data zero, but for the end of the parity, whose tag fits: a difference of seventeen bits, then one of sixteen.
@@ -47,14 +46,18 @@ pub fn torn() {
     bytes[510] = 0x8B;
     bytes[511] = 0xB7;
     io::write_all(STDOUT_FILENO, b"\nparity ends 01 8B B7\n");
-    verdict(&bytes);
-    quick(&bytes);
+    scrubs(&bytes);
     bytes[511] = 0xB6;
     bytes[512] = 0x8B;
     bytes[513] = 0xB7;
     io::write_all(STDOUT_FILENO, b"parity ends 01 8B B6\n");
-    verdict(&bytes);
-    quick(&bytes);
+    scrubs(&bytes);
+}
+
+// Both scrubs of a stripe.
+fn scrubs(bytes: &[u8]) {
+    verdict(bytes);
+    quick(bytes);
 }
 
 // The tags of the three members.
@@ -89,10 +92,11 @@ fn reading(bytes: &[u8]) {
     let mut out = [0u8; 512];
     io::write_all(STDOUT_FILENO, b"block 0 reads                ");
     let read = stripe::read(three(), 0, bytes, &mut out);
+    let last = wide(out[511]);
     match read {
         Reading::Refused(number) => named(b"refusal ", number as u64),
-        Reading::Stored => named(b"stored, last byte ", wide(out[511])),
-        Reading::Rebuilt => named(b"rebuilt, last byte ", wide(out[511])),
+        Reading::Stored => named(b"stored, last byte ", last),
+        Reading::Rebuilt => named(b"rebuilt, last byte ", last),
     }
     io::write_all(STDOUT_FILENO, b"\n");
 }

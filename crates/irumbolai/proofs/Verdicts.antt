@@ -1,4 +1,5 @@
--- A verdict's numbers fit their fields: a member, a count of members and a place in a block's data are at most 512. Assumes nothing.
+-- A verdict's numbers fit their fields: a member, a count of members and a place in a block's data are at most the most data of a block.
+-- Assumes nothing.
 use mathlib.Core.Path.{_≡_, refl, sym, ap, subst}
 use mathlib.Core.Bool.{Bool, true, false, not, cond}
 use mathlib.Core.List.{List, [], _∷_, map}
@@ -8,16 +9,18 @@ use borrow.Author.Tests.{eqb-true}
 use lib.Dec.{ltb, eqb}
 use lib.ListN.{length, getD, take}
 use Rattle.xor.proofs.Combination.{length-combination}
+use Rattle.format.specs.Formats.{mostData}
 use Rattle.layout.specs.Answers.{refuse, answer}
 use Rattle.layout.specs.declared.Array.{Array}
 use Rattle.layout.proofs.Answers.{refuse-none}
 use Rattle.layout.proofs.Ranges.{stripe-sound}
+use Rattle.tag.specs.Blocks.{formatAt, dataOf}
 use Rattle.verdict.specs.Verdicts.{count, lowest, judgedBy, judged}
 use Rattle.verdict.proofs.Flags.{count-most}
 use Rattle.verdict.proofs.Verdicts.{length-nonzero, judged-refused}
 use Rattle.stripe.specs.Tables.{table, all}
 use Rattle.stripe.specs.Stripes.{blockOf}
-use Rattle.stripe.specs.Formats.{Summary, t10, whole, dataIn, summaryOf}
+use Rattle.stripe.specs.Formats.{Summary, summaryOf}
 use Rattle.stripe.specs.Verdicts.{badMembers, tornPlaces, verdict, scrubRefusal, scrubNumbers}
 use Rattle.stripe.proofs.Tables.{length-table}
 use Rattle.stripe.proofs.Scrubs.{scrub-sound}
@@ -27,15 +30,15 @@ use Rattle.scan.proofs.Fitness.{finish-fit}
 
 -- of an answer's numbers, the fourth (a member or a place) and the fifth (a count)
 pub record Small (numbers : List ℕ) : Type 0 where
-  pub first : getD numbers 3 0 ≤ 512
-  pub count : getD numbers 4 0 ≤ 512
+  pub first : getD numbers 3 0 ≤ mostData
+  pub count : getD numbers 4 0 ≤ mostData
 
 lowest-most : (flags : List Bool) → lowest flags ≤ length flags
 lowest-most [] = zero-le
 lowest-most (true ∷ flags) = zero-le
 lowest-most (false ∷ flags) = suc-le-suc (lowest-most flags)
 
-judged-small : (bads torn : List Bool) → length bads ≤ 512 → length torn ≤ 512 → Small (1 ∷ 0 ∷ judged bads torn)
+judged-small : (bads torn : List Bool) → length bads ≤ mostData → length torn ≤ mostData → Small (1 ∷ 0 ∷ judged bads torn)
 unfolding judged judgedBy
 judged-small bads torn b t = by-tests (ltb 0 (count bads)) (ltb 0 (count torn))
   where
@@ -52,12 +55,12 @@ length-torn : (s : Summary) → length (tornPlaces s) ≡ length (s .combined)
 unfolding tornPlaces
 length-torn s = length-nonzero (s .combined)
 
--- the answer of a scrub that is refused unless the stripe has few members and its data combine to so many bytes
-verdict-small : (number : ℕ) (a : Array) (stripe : ℕ) (s : Summary) → (number ≡ 0 → (a .members ≤ 16) × (length (s .combined) ≡ 512))
+-- the answer of a scrub that is refused unless the stripe has few members and its data combine to those of a block
+verdict-small : (number : ℕ) (a : Array) (stripe : ℕ) (s : Summary) → (number ≡ 0 → (a .members ≤ 16) × (length (s .combined) ≡ formatAt a .dataLength))
     → Small (answer number (verdict a stripe s))
 verdict-small zero a stripe s h =
     judged-small (badMembers a stripe s) (tornPlaces s) (omega (arith, length-bad a stripe s, h refl .0))
-    (omega (arith, length-torn s, h refl .1))
+    (omega (arith, length-torn s, h refl .1, formatAt a .data-most))
 verdict-small (suc k) a stripe s h =
     let e = ap (λ (l : List ℕ). 0 ∷ suc k ∷ l) (judged-refused (badMembers a stripe s) (tornPlaces s)) in
     subst Small (sym e) (record { first = zero-le; count = zero-le })
@@ -65,19 +68,22 @@ verdict-small (suc k) a stripe s h =
 pub scrub-small : (a : Array) (stripe : ℕ) (bytes : List ℕ) → Small (scrubNumbers a stripe bytes)
 unfolding scrubNumbers
 scrub-small a stripe bytes =
-    let blocks = table (a .members) (blockOf bytes) in
-    verdict-small (scrubRefusal a stripe (length bytes)) a stripe (summaryOf t10 blocks)
-    (λ e. (stripe-sound a stripe (scrub-sound a stripe (length bytes) e .0) .array .many, length-combination 512 (map (dataIn t10) blocks)))
+    let F = formatAt a in
+    let blocks = table (a .members) (blockOf F bytes) in
+    verdict-small (scrubRefusal a stripe (length bytes)) a stripe (summaryOf F blocks)
+    (λ e. (stripe-sound a stripe (scrub-sound a stripe (length bytes) e .0) .array .many, length-combination (F .dataLength) (map (dataOf F) blocks)))
 
-finish-long : (s : Scan) (k : ℕ) → finishRefusal s k ≡ 0 → k ≡ 512
+finish-long : (s : Scan) (k : ℕ) → finishRefusal s k ≡ 0 → k ≡ formatAt (s .array) .dataLength
 unfolding finishRefusal
 finish-long s k e =
-    let last = refuse (not (all (map (λ p. eqb p (whole t10)) (take (s .array .members) (s .at))))) 8 0 in
-    let fits = refuse-none (fit s) 3 (refuse (not (eqb k 512)) 6 last) e in
-    eqb-true k 512 (refuse-none (eqb k 512) 5 last (fits .1) .0)
+    let F = formatAt (s .array) in
+    let last = refuse (not (all (map (λ p. eqb p (F .blockLength)) (take (s .array .members) (s .at))))) 8 0 in
+    let fits = refuse-none (fit s) 3 (refuse (not (eqb k (F .dataLength))) 6 last) e in
+    eqb-true k (F .dataLength) (refuse-none (eqb k (F .dataLength)) 5 last (fits .1) .0)
 
 pub finish-small : (s : Scan) (work : List ℕ) → Small (finishNumbers s work)
 unfolding finishNumbers heldSummary
 finish-small s work =
-    verdict-small (finishRefusal s (length work)) (s .array) (s .stripe) (heldSummary t10 (s .array .members) (s .register) (s .tag) work)
+    verdict-small (finishRefusal s (length work)) (s .array) (s .stripe)
+    (heldSummary (formatAt (s .array)) (s .array .members) (s .register) (s .tag) work)
     (λ e. (finish-fit s (length work) e .few, finish-long s (length work) e))

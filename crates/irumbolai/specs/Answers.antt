@@ -2,7 +2,7 @@
 use Prim.Native.Nat.{ℕ}
 use mathlib.Core.List.{List, [], _∷_}
 use lib.ListN.{drop}
-use Rattle.layout.specs.declared.Array.{Array}
+use Rattle.layout.specs.Arrays.{arrayOf}
 use Rattle.layout.specs.declared.Placed.{Placed}
 use Rattle.layout.specs.declared.Placed.the-variants.{Refused, At}
 use Rattle.scan.specs.declared.Scan.{Scan}
@@ -13,10 +13,6 @@ use Rattle.irumbolai.specs.declared.ReadAnswer.{ReadAnswer}
 use Rattle.irumbolai.specs.declared.VerdictAnswer.{VerdictAnswer}
 use Rattle.irumbolai.specs.declared.QuickAnswer.{QuickAnswer}
 use Rattle.irumbolai.specs.declared.ScanState.{ScanState}
-
--- the array whose numbers are handed in one by one
-abbrev pub arrayOf : ℕ → ℕ → ℕ → Array
-arrayOf members stripes volume = record { members = members; stripes = stripes; volume = volume }
 
 -- the state of a scan that C holds: the array's numbers stand in it one by one
 abbrev pub scanOf : ScanState → Scan

@@ -13,6 +13,7 @@ ghost use Rattle.crc.specs.Blocks.{guardsOf};
 ghost use Rattle.crc.specs.Guard.{guard};
 ghost use Rattle.verdict.specs.Verdicts.{verdictNumbers, scrubbedNumbers};
 ghost use Rattle.irumbolai.specs.Answers.{unflagged, verdictFields};
+use format::MOST_TAGS;
 use verdict::Scrubbed;
 use verdict::Verdict;
 
@@ -80,7 +81,7 @@ pub struct ScanState {
     pub stripe: u64,
     pub at: [u16; 16],
     pub register: [u16; 16],
-    pub tag: [u8; 128],
+    pub tag: [u8; MOST_TAGS],
 }
 
 // What a call of a scan leaves.

@@ -1,13 +1,13 @@
 // Where blocks lie, for C.
 use crate::OwnerAnswer;
 use crate::PlaceAnswer;
-use layout::Array;
 use layout::Owned;
 use layout::Placed;
 ghost use mathlib.Core.Path.{_≡_};
 ghost use Prim.Native.Nat.{_<_};
+ghost use Rattle.layout.specs.Arrays.{arrayOf};
 ghost use Rattle.layout.specs.Places.{placedNumbers, placeNumbers, ownedNumbers, ownerNumbers};
-ghost use Rattle.irumbolai.specs.Answers.{arrayOf, unflagged, memberAnswered, placeFields, ownerFields};
+ghost use Rattle.irumbolai.specs.Answers.{unflagged, memberAnswered, placeFields, ownerFields};
 
 // An answer of `place` for C.
 fn place_answer(placed: Placed) -> PlaceAnswer
@@ -44,11 +44,7 @@ pub extern "C" fn irumbolai_place(
 ) -> PlaceAnswer
     ensures { λ r. ⌜ placeFields r ≡ unflagged (placeNumbers (arrayOf members stripes volume) block) ⌝ }
 {
-    let array = Array {
-        members,
-        stripes,
-        volume,
-    };
+    let array = layout::array_of(members, stripes, volume);
     place_answer(layout::place(array, block))
 }
 
@@ -89,10 +85,6 @@ pub extern "C" fn irumbolai_owner(
 ) -> OwnerAnswer
     ensures { λ r. ⌜ ownerFields r ≡ unflagged (ownerNumbers (arrayOf members stripes volume) stripe member) ⌝ }
 {
-    let array = Array {
-        members,
-        stripes,
-        volume,
-    };
+    let array = layout::array_of(members, stripes, volume);
     owner_answer(layout::owner(array, stripe, member))
 }

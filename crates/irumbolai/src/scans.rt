@@ -3,10 +3,10 @@ use crate::ScanState;
 use crate::TakenAnswer;
 use crate::VerdictAnswer;
 use crate::verdict_answer;
-use layout::Array;
 use scan::Scan;
 ghost use mathlib.Core.Path.{_≡_};
 ghost use lib.ListN.{length};
+ghost use Rattle.layout.specs.Arrays.{arrayOf};
 ghost use Rattle.scan.specs.Scans.{
   startRefusal,
   startState,
@@ -16,17 +16,13 @@ ghost use Rattle.scan.specs.Scans.{
   pieceWork,
   finishNumbers,
 };
-ghost use Rattle.irumbolai.specs.Answers.{arrayOf, scanOf, unflagged, verdictFields};
+ghost use Rattle.irumbolai.specs.Answers.{scanOf, unflagged, verdictFields};
 
 // The state that C hands in.
 fn scan_of(state: ScanState) -> Scan
     ensures { λ r. ⌜ r ≡ scanOf state ⌝ }
 {
-    let array = Array {
-        members: state.members,
-        stripes: state.stripes,
-        volume: state.volume,
-    };
+    let array = layout::array_of(state.members, state.stripes, state.volume);
     let at = state.at;
     let register = state.register;
     let tag = state.tag;
@@ -71,11 +67,7 @@ pub extern "C" fn irumbolai_start(
     ensures { λ r. ⌜ scanOf (r .state) ≡ startState (arrayOf members stripes volume) stripe (length (now (work .entry))) ⌝ }
     ensures { λ _. ⌜ now (work .exit) ≡ startWork (arrayOf members stripes volume) stripe (now (work .entry)) ⌝ }
 {
-    let array = Array {
-        members,
-        stripes,
-        volume,
-    };
+    let array = layout::array_of(members, stripes, volume);
     let taken = scan::start(array, stripe, work);
     let refusal = taken.refusal as u32;
     let next = taken.state;

@@ -2,12 +2,12 @@
 use crate::QuickAnswer;
 use crate::VerdictAnswer;
 use crate::verdict_answer;
-use layout::Array;
 use verdict::Compared;
 ghost use mathlib.Core.Path.{_≡_};
+ghost use Rattle.layout.specs.Arrays.{arrayOf};
 ghost use Rattle.verdict.specs.Verdicts.{comparedNumbers, quickNumbers};
 ghost use Rattle.stripe.specs.Verdicts.{scrubNumbers};
-ghost use Rattle.irumbolai.specs.Answers.{arrayOf, unflagged, verdictFields, quickFields};
+ghost use Rattle.irumbolai.specs.Answers.{unflagged, verdictFields, quickFields};
 
 // The full scrub of a stripe.
 #[no_mangle]
@@ -20,11 +20,7 @@ pub extern "C" fn irumbolai_scrub(
 ) -> VerdictAnswer
     ensures { λ r. ⌜ verdictFields r ≡ unflagged (scrubNumbers (arrayOf members stripes volume) stripe (now (bytes .entry))) ⌝ }
 {
-    let array = Array {
-        members,
-        stripes,
-        volume,
-    };
+    let array = layout::array_of(members, stripes, volume);
     verdict_answer(stripe::scrub(array, stripe, bytes))
 }
 

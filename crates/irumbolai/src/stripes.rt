@@ -1,17 +1,20 @@
 // The jobs on blocks and stripes in memory, for C.
 use crate::CheckAnswer;
 use crate::ReadAnswer;
-use layout::Array;
 use stripe::Reading;
 use tag::Checked;
 ghost use mathlib.Core.Path.{_≡_};
-ghost use lib.ListN.{length};
+ghost use Prim.Native.Nat.{_<_};
+ghost use lib.ListN.{length, getD};
+ghost use Rattle.layout.specs.Arrays.{arrayOf};
 ghost use Rattle.tag.specs.Tags.{checkedNumbers, checkNumbers};
 ghost use Rattle.stripe.specs.Jobs.{sealRefusal, sealBytes, readingNumbers, readNumbers, readOut, rebuildRefusal, rebuildBytes, updateRefusal, updateBytes};
-ghost use Rattle.irumbolai.specs.Answers.{arrayOf, unflagged, checkFields, readFields};
+ghost use Rattle.irumbolai.specs.Answers.{unflagged, checkFields, readFields};
 
 // An answer of `check` for C.
 fn check_answer(checked: Checked) -> CheckAnswer
+    requires { ⌜ getD (checkedNumbers checked) 3 0 < 4294967296 ⌝ }
+    requires { ⌜ getD (checkedNumbers checked) 4 0 < 4294967296 ⌝ }
     ensures { λ r. ⌜ checkFields r ≡ unflagged (checkedNumbers checked) ⌝ }
 {
     match checked {
@@ -50,12 +53,16 @@ fn check_answer(checked: Checked) -> CheckAnswer
                 expected,
             }
         }
-        Checked::Reference { found, expected } => CheckAnswer {
-            refusal: 0,
-            field: 3,
-            found,
-            expected,
-        },
+        Checked::Reference { found, expected } => {
+            let found = found as u32;
+            let expected = expected as u32;
+            CheckAnswer {
+                refusal: 0,
+                field: 3,
+                found,
+                expected,
+            }
+        }
     }
 }
 
@@ -71,11 +78,7 @@ pub extern "C" fn irumbolai_check(
 ) -> CheckAnswer
     ensures { λ r. ⌜ checkFields r ≡ unflagged (checkNumbers (arrayOf members stripes volume) stripe member (now (block .entry))) ⌝ }
 {
-    let array = Array {
-        members,
-        stripes,
-        volume,
-    };
+    let array = layout::array_of(members, stripes, volume);
     check_answer(tag::check(array, stripe, member, block))
 }
 
@@ -92,11 +95,7 @@ pub extern "C" fn irumbolai_seal(
     ensures { λ r. ⌜ r ≡ sealRefusal (arrayOf members stripes volume) stripe (length (now (content .entry))) (length (now (bytes .entry))) ⌝ }
     ensures { λ _. ⌜ now (bytes .exit) ≡ sealBytes (arrayOf members stripes volume) stripe (now (content .entry)) (now (bytes .entry)) ⌝ }
 {
-    let array = Array {
-        members,
-        stripes,
-        volume,
-    };
+    let array = layout::array_of(members, stripes, volume);
     stripe::seal(array, stripe, content, bytes) as u32
 }
 
@@ -136,11 +135,7 @@ pub extern "C" fn irumbolai_read(
     ensures { λ r. ⌜ readFields r ≡ unflagged (readNumbers (arrayOf members stripes volume) block (now (bytes .entry)) (length (now (out .entry)))) ⌝ }
     ensures { λ _. ⌜ now (out .exit) ≡ readOut (arrayOf members stripes volume) block (now (bytes .entry)) (now (out .entry)) ⌝ }
 {
-    let array = Array {
-        members,
-        stripes,
-        volume,
-    };
+    let array = layout::array_of(members, stripes, volume);
     read_answer(stripe::read(array, block, bytes, out))
 }
 
@@ -157,11 +152,7 @@ pub extern "C" fn irumbolai_rebuild(
     ensures { λ r. ⌜ r ≡ rebuildRefusal (arrayOf members stripes volume) stripe member (now (bytes .entry)) ⌝ }
     ensures { λ _. ⌜ now (bytes .exit) ≡ rebuildBytes (arrayOf members stripes volume) stripe member (now (bytes .entry)) ⌝ }
 {
-    let array = Array {
-        members,
-        stripes,
-        volume,
-    };
+    let array = layout::array_of(members, stripes, volume);
     stripe::rebuild(array, stripe, member, bytes) as u32
 }
 
@@ -178,10 +169,6 @@ pub extern "C" fn irumbolai_update(
     ensures { λ r. ⌜ r ≡ updateRefusal (arrayOf members stripes volume) block (length (now (content .entry))) (now (bytes .entry)) ⌝ }
     ensures { λ _. ⌜ now (bytes .exit) ≡ updateBytes (arrayOf members stripes volume) block (now (content .entry)) (now (bytes .entry)) ⌝ }
 {
-    let array = Array {
-        members,
-        stripes,
-        volume,
-    };
+    let array = layout::array_of(members, stripes, volume);
     stripe::update(array, block, content, bytes) as u32
 }

@@ -5,14 +5,15 @@ use mathlib.Core.List.{[], _∷_}
 use mathlib.Core.Logic.{_≢_, _⊎_, inl, inr}
 use Prim.Native.Nat.{ℕ, _<_}
 use native.Mathlib.Decide.{ℕ-discrete}
+use borrow.Author.Tests.{eq-eqb, ne-eqb}
 use Rattle.layout.specs.Arrays.{dataMembers, blockRefusal}
-use Rattle.layout.specs.Places.{parityMember, blockAt, stripeOf, indexOf, indexAt, memberOf, placeNumbers, ownerRefusal, ownerNumbers, OneBlock}
+use Rattle.layout.specs.Places.{parityMember, blockAt, stripeOf, indexOf, indexAt, memberOf, isParity, blockNamed, placeNumbers, ownerRefusal, ownerNumbers, OneBlock}
 use Rattle.layout.specs.Ranges.{SoundBlock}
 use Rattle.layout.specs.declared.Array.{Array}
 use Rattle.layout.proofs.Ranges.{block-sound, sound-block, place-sound, sound-place}
 use Rattle.layout.proofs.Members.{member-below, member-not-parity, index-of-member, member-of-index, index-below}
-use Rattle.layout.proofs.Blocks.{stripe-of-block, index-of-block, block-of-parts, index-in-stripe, stripe-in-array, block-in-array, stripe-by-lowest}
-use Rattle.layout.proofs.Numbers.{place-numbers, owner-of-parity, owner-of-data}
+use Rattle.layout.proofs.Blocks.{stripe-of-block, index-of-block, block-of-parts, index-in-stripe, stripe-in-array, block-in-array, lowest-sound, stripe-by-lowest}
+use Rattle.layout.proofs.Numbers.{place-numbers, owner-of-parity, owner-of-data, owner-by-name}
 
 module _ (a : Array) where
   -- ---- there and back
@@ -108,3 +109,18 @@ module _ (a : Array) where
             sym (stripe-of-owned s m e p) ∙ ap (stripeOf a) b ∙ stripe-of-owned t k f q,
             sym (member-of-owned s m e p) ∙ ap (memberOf a) b ∙ member-of-owned t k f q,
           )
+
+  -- the block that a place is named by is one of the array; with the kind of the place it tells the place
+  pub named-sound : (stripe member : ℕ) → ownerRefusal a stripe member ≡ 0 → SoundBlock a (blockNamed a stripe member)
+  unfolding blockNamed
+  named-sound stripe member e = by-kind (ℕ-discrete member (parityMember a stripe))
+    where
+      by-kind : Dec (member ≡ parityMember a stripe) → SoundBlock a (blockNamed a stripe member)
+      by-kind (yes p) = rw (eq-eqb member (parityMember a stripe) p) (lowest-sound a stripe (place-sound a stripe member e .stripe))
+      by-kind (no o) = rw (ne-eqb member (parityMember a stripe) o) (owned-sound stripe member e o)
+
+  pub named-injective : (stripe member stripe′ member′ : ℕ) → ownerRefusal a stripe member ≡ 0 → ownerRefusal a stripe′ member′ ≡ 0 →
+      isParity a stripe member ≡ isParity a stripe′ member′ → blockNamed a stripe member ≡ blockNamed a stripe′ member′ →
+      (stripe ≡ stripe′) × (member ≡ member′)
+  named-injective s m t k e f kind name =
+      owner-injective s m t k e f (rw (owner-by-name a s m e, owner-by-name a t k f, kind, name))

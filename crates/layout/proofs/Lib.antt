@@ -4,4 +4,5 @@ pub mod Injective
 pub mod Members
 pub mod Blocks
 pub mod Numbers
+pub mod References
 pub mod Bijection

@@ -2,7 +2,7 @@
 -- and each other number exactly where its own test is the first that fails. Assumes nothing.
 use mathlib.Core.Path.{_≡_, refl}
 use mathlib.Core.Bool.{Bool, true, false, not, _&&_}
-use mathlib.Core.Logic.{_↔_}
+use mathlib.Core.Logic.{_≢_, _↔_}
 use Prim.Native.Nat.{ℕ, _≤_}
 use native.Mathlib.Omega.{arith}
 use borrow.Author.Tests.{leb-true, le-leb}
@@ -12,9 +12,9 @@ use Rattle.layout.specs.Arrays.{within, membersFit, stripesFit, arrayRef
 use Rattle.layout.specs.Places.{ownerRefusal}
 use Rattle.layout.specs.Ranges.{Sound, SoundStripe, SoundBlock, SoundPlace}
 use Rattle.layout.specs.declared.Array.{Array}
-use Rattle.layout.proofs.Answers.{refuse-none, or-past-none, none-or-past, or-past-number, number-or-past, or-past-most}
+use Rattle.layout.proofs.Answers.{refuse-none, or-past-none, none-or-past, or-past-number, number-or-past, or-past-else}
 
-both : (s t : Bool) → (s && t) ≡ true → (s ≡ true) × (t ≡ true)
+pub both : (s t : Bool) → (s && t) ≡ true → (s ≡ true) × (t ≡ true)
 both true t e = (refl, e)
 both false t e = (e, (cc))
 
@@ -91,18 +91,19 @@ stripes-refused a = by-tests (membersFit a) (stripesFit a)
     by-tests true false = (λ e. (refl, refl), λ e. refl)
     by-tests false s = (λ e. absurd (omega arith), λ e. (cc))
 
-pub array-number : (a : Array) → arrayRefusal a ≤ 2
+-- no other number is the array's own: later requests add numbers past 11
+pub array-else : (a : Array) (n : ℕ) → 3 ≤ n → n ≤ 11 → arrayRefusal a ≢ n
 unfolding arrayRefusal
-array-number a = by-tests (membersFit a) (stripesFit a)
+array-else a n low high = by-tests (membersFit a) (stripesFit a)
   where
-    by-tests : (m s : Bool) → refuse (not m) 1 (refuse (not s) 2 0) ≤ 2
-    by-tests true true = omega arith
-    by-tests true false = omega arith
+    by-tests : (m s : Bool) → refuse (not m) 1 (refuse (not s) 2 0) ≢ n
     by-tests false s = omega arith
+    by-tests true false = omega arith
+    by-tests true true = omega arith
 
 past-refused : (a : Array) (x end : ℕ) → (orPast (arrayRefusal a) x end 3 ≡ 3) ↔ (Sound a × (end ≤ x))
 past-refused a x end = (
-  λ e. let h = or-past-number (arrayRefusal a) x end 2 (omega (arith, array-number a)) e in (array-sound a (h .0), h .1),
+  λ e. let h = or-past-number (arrayRefusal a) x end 2 (array-else a 3 (omega arith) (omega arith)) e in (array-sound a (h .0), h .1),
   λ h. number-or-past (arrayRefusal a) x end 3 (sound-array a (h .0)) (h .1),
 )
 
@@ -114,15 +115,21 @@ pub block-refused : (a : Array) (block : ℕ) → (blockRefusal a block ≡ 3) �
 unfolding blockRefusal
 block-refused a block = past-refused a block (blockCount a)
 
-pub stripe-number : (a : Array) (stripe : ℕ) → stripeRefusal a stripe ≤ 3
+pub stripe-else : (a : Array) (stripe n : ℕ) → 4 ≤ n → n ≤ 11 → stripeRefusal a stripe ≢ n
 unfolding stripeRefusal
-stripe-number a stripe = or-past-most (arrayRefusal a) stripe (a .stripes) 3 (omega (arith, array-number a))
+stripe-else a stripe n low high =
+    or-past-else (arrayRefusal a) stripe (a .stripes) 3 n (omega arith) (array-else a n (omega arith) high) (omega arith)
+
+pub owner-else : (a : Array) (stripe member n : ℕ) → 6 ≤ n → n ≤ 11 → ownerRefusal a stripe member ≢ n
+unfolding ownerRefusal
+owner-else a stripe member n low high =
+    or-past-else (stripeRefusal a stripe) member (a .members) 5 n (omega arith) (stripe-else a stripe n (omega arith) high) (omega arith)
 
 pub member-refused : (a : Array) (stripe member : ℕ) → (ownerRefusal a stripe member ≡ 5) ↔ (SoundStripe a stripe × (a .members ≤ member))
 unfolding ownerRefusal
 member-refused a stripe member = (
   λ e.
-      let h = or-past-number (stripeRefusal a stripe) member (a .members) 4 (omega (arith, stripe-number a stripe)) e in
+      let h = or-past-number (stripeRefusal a stripe) member (a .members) 4 (stripe-else a stripe 5 (omega arith) (omega arith)) e in
       (stripe-sound a stripe (h .0), h .1),
   λ h. number-or-past (stripeRefusal a stripe) member (a .members) 5 (sound-stripe a stripe (h .0)) (h .1),
 )

@@ -6,6 +6,14 @@ use lib.Dec.{leb}
 use Rattle.layout.specs.Answers.{refuse, orPast}
 use Rattle.layout.specs.declared.Array.{Array}
 
+-- the array with these numbers
+abbrev pub arrayOf : ℕ → ℕ → ℕ → Array
+arrayOf members stripes volume = record { members = members; stripes = stripes; volume = volume }
+
+-- no array: zeros throughout
+abbrev pub noArray : Array
+noArray = arrayOf 0 0 0
+
 -- x lies between low and high, both included
 abbrev pub within : ℕ → ℕ → ℕ → Bool
 within low high x = leb low x && leb x high

@@ -69,10 +69,13 @@ ownerRefusal a stripe member = orPast (stripeRefusal a stripe) member (a .member
 abbrev pub isParity : Array → ℕ → ℕ → Bool
 isParity a stripe member = eqb member (parityMember a stripe)
 
+-- the block number that a place is named by: its own, and the lowest of its stripe for the parity
+unfoldable pub blockNamed : Array → ℕ → ℕ → ℕ
+blockNamed a stripe member = cond (isParity a stripe member) (lowestBlock a stripe) (blockAt a stripe (indexAt a stripe member))
+
 unfoldable pub ownerNumbers : Array → ℕ → ℕ → List ℕ
 ownerNumbers a stripe member =
-    answer (ownerRefusal a stripe member)
-    (cond (isParity a stripe member) (1 ∷ lowestBlock a stripe ∷ []) (0 ∷ blockAt a stripe (indexAt a stripe member) ∷ []))
+    answer (ownerRefusal a stripe member) (cond (isParity a stripe member) 1 0 ∷ blockNamed a stripe member ∷ [])
 
 -- ---- a place holds one block of the array, and no second
 

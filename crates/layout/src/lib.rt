@@ -3,14 +3,32 @@
 ghost use mathlib.Core.Path.{_≡_};
 ghost use Prim.Native.Nat.{_-_, _<_, _≤_};
 ghost use Rattle.layout.specs.Answers.{orPast};
-ghost use Rattle.layout.specs.Arrays.{within, arrayRefusal, dataMembers, stripeRefusal, blockRefusal};
-ghost use Rattle.layout.specs.Places.{parityMember, memberAt, indexAt, placedNumbers, placeNumbers, ownedNumbers, ownerNumbers, ownerRefusal};
+ghost use Rattle.layout.specs.Arrays.{arrayOf, noArray, within, arrayRefusal, dataMembers, stripeRefusal, blockRefusal};
+ghost use Rattle.layout.specs.Places.{parityMember, memberAt, indexAt, referenceOf, placedNumbers, placeNumbers, ownedNumbers, ownerNumbers, ownerRefusal};
 
 // The array's numbers: members n, stripes S, and the volume that stands in every application tag.
 pub struct Array {
     pub members: usize,
     pub stripes: u64,
     pub volume: u8,
+}
+
+// The array with these numbers.
+pub fn array_of(members: usize, stripes: u64, volume: u8) -> Array
+    ensures { λ r. ⌜ r ≡ arrayOf members stripes volume ⌝ }
+{
+    Array {
+        members,
+        stripes,
+        volume,
+    }
+}
+
+// No array: zeros throughout.
+pub fn no_array() -> Array
+    ensures { λ r. ⌜ r ≡ noArray ⌝ }
+{
+    array_of(0, 0, 0)
 }
 
 // Where a block lies.
@@ -171,4 +189,11 @@ pub fn owner(array: Array, stripe: u64, member: usize) -> Owned
     let index = index_at(array, stripe, member);
     let block = lowest + index as u64;
     Owned::Data { block }
+}
+
+// The reference tag of a block number.
+pub fn reference(block: u64) -> u64
+    ensures { λ r. ⌜ r ≡ referenceOf block ⌝ }
+{
+    block
 }

@@ -3,17 +3,17 @@
 use mathlib.Core.Path.{_≡_, refl}
 use mathlib.Core.List.{List, [], _∷_}
 use Prim.Native.Nat.{ℕ}
-use Rattle.layout.specs.Arrays.{arrayRefusal}
+use Rattle.layout.specs.Arrays.{arrayOf, arrayRefusal}
 use Rattle.layout.specs.declared.Array.{Array}
 use Rattle.tag.specs.Numbers.{numberOf}
 use Rattle.lines.specs.Text.{decimal, scrubWord, membersWord, stripesWord, cleanWord, badWord, tornWord, totalWord, cleanCount, badCount, tornCount, refusedWord}
 use Rattle.lines.specs.Lines.{firstLine, stripeLine, totalLine, refusedLine}
-use Rattle.lines.specs.Headers.{arrayIn, headerRefusal}
+use Rattle.lines.specs.Headers.{formOf, formSize, arrayIn, headerRefusal}
 
 -- ---- lines
 
 abbrev fiveByThousand : Array
-fiveByThousand = record { members = 5; stripes = 1000; volume = 9 }
+fiveByThousand = arrayOf 5 1000 9
 
 -- "SCRUB v1 members 5 stripes 1000"
 pub first-line-reads : firstLine fiveByThousand ≡ 0x53 ∷ 0x43 ∷ 0x52 ∷ 0x55 ∷ 0x42 ∷ 0x20 ∷ 0x76 ∷ 0x31 ∷ 0x20 ∷ 0x6D ∷ 0x65 ∷ 0x6D ∷ 0x62 ∷ 0x65
@@ -54,38 +54,42 @@ refused-line-reads = refl
 abbrev header : List ℕ
 header = 0x00 ∷ 0x07 ∷ 0x01 ∷ 0x03 ∷ 0x05 ∷ 0x01 ∷ 0x02 ∷ 0x03 ∷ 0x04 ∷ []
 
-pub header-reads : arrayIn header ≡ record { members = 3; stripes = 0x01020304; volume = 5 }
-unfolding arrayIn numberOf
+pub header-reads : arrayIn header ≡ arrayOf 3 0x01020304 5
+unfolding arrayIn formOf numberOf
 header-reads = refl
 
 pub header-accepted : headerRefusal header ≡ 0
-unfolding headerRefusal arrayRefusal arrayIn numberOf
+unfolding headerRefusal formOf formSize arrayRefusal arrayIn numberOf
 header-accepted = refl
 
 -- a byte short
 pub short-refused : headerRefusal (0x00 ∷ 0x07 ∷ 0x01 ∷ 0x03 ∷ 0x05 ∷ 0x01 ∷ 0x02 ∷ 0x03 ∷ []) ≡ 10
-unfolding headerRefusal arrayRefusal arrayIn numberOf
+unfolding headerRefusal formOf formSize arrayRefusal arrayIn numberOf
 short-refused = refl
 
 -- length 8; length 0700h, the two bytes exchanged
 pub length-eight-refused : headerRefusal (0x00 ∷ 0x08 ∷ 0x01 ∷ 0x03 ∷ 0x05 ∷ 0x01 ∷ 0x02 ∷ 0x03 ∷ 0x04 ∷ []) ≡ 10
-unfolding headerRefusal arrayRefusal arrayIn numberOf
+unfolding headerRefusal formOf formSize arrayRefusal arrayIn numberOf
 length-eight-refused = refl
 
 pub length-exchanged-refused : headerRefusal (0x07 ∷ 0x00 ∷ 0x01 ∷ 0x03 ∷ 0x05 ∷ 0x01 ∷ 0x02 ∷ 0x03 ∷ 0x04 ∷ []) ≡ 10
-unfolding headerRefusal arrayRefusal arrayIn numberOf
+unfolding headerRefusal formOf formSize arrayRefusal arrayIn numberOf
 length-exchanged-refused = refl
 
--- version 2
+-- version 2; and at its third byte
 pub version-two-refused : headerRefusal (0x00 ∷ 0x07 ∷ 0x02 ∷ 0x03 ∷ 0x05 ∷ 0x01 ∷ 0x02 ∷ 0x03 ∷ 0x04 ∷ []) ≡ 10
-unfolding headerRefusal arrayRefusal arrayIn numberOf
+unfolding headerRefusal formOf formSize arrayRefusal arrayIn numberOf
 version-two-refused = refl
+
+pub three-bytes-refused : headerRefusal (0x00 ∷ 0x07 ∷ 0x02 ∷ []) ≡ 10
+unfolding headerRefusal formOf formSize arrayRefusal arrayIn numberOf
+three-bytes-refused = refl
 
 -- 2 members; no stripes
 pub two-members-refused : headerRefusal (0x00 ∷ 0x07 ∷ 0x01 ∷ 0x02 ∷ 0x05 ∷ 0x01 ∷ 0x02 ∷ 0x03 ∷ 0x04 ∷ []) ≡ 1
-unfolding headerRefusal arrayRefusal arrayIn numberOf
+unfolding headerRefusal formOf formSize arrayRefusal arrayIn numberOf
 two-members-refused = refl
 
 pub no-stripes-refused : headerRefusal (0x00 ∷ 0x07 ∷ 0x01 ∷ 0x03 ∷ 0x05 ∷ 0x00 ∷ 0x00 ∷ 0x00 ∷ 0x00 ∷ []) ≡ 2
-unfolding headerRefusal arrayRefusal arrayIn numberOf
+unfolding headerRefusal formOf formSize arrayRefusal arrayIn numberOf
 no-stripes-refused = refl

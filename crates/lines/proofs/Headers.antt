@@ -1,63 +1,196 @@
--- A header's array and its refusal number, test by test. Assumes nothing.
-use mathlib.Core.Path.{_≡_}
-use mathlib.Core.Bool.{true, _&&_}
-use mathlib.Core.List.{List}
+-- A header's form, its size, its array and its refusal number, and what a reader that gets it in pieces rests on: three bytes tell how
+-- many there are, whatever follows them. Assumes nothing.
+use mathlib.Core.Path.{_≡_, refl, ap, _∙_, sym}
+use mathlib.Core.List.{List, [], _∷_, _++_}
+use mathlib.Core.Bool.{Bool, true, false, not, cond, _&&_}
 use mathlib.Core.Logic.{_≢_}
-use Prim.Native.Nat.{ℕ, _+_, _*_, _≤_, _<_}
+use Prim.Native.Nat.{ℕ, zero, suc, _+_, _-_, _*_, _≤_, _<_, min}
+use native.Mathlib.Nat.{add-zero}
+use native.Mathlib.Decide.{decLt}
 use native.Mathlib.Omega.{arith}
 use borrow.Author.Tests.{le-leb, lt-leb, eq-eqb, ne-eqb}
-use lib.Dec.{leb, eqb}
-use lib.ListN.{length, getD, take, length-take}
-use lib.Seq.{take-all}
+use lib.Dec.{eqb, leb, lit≤}
+use lib.ListN.{length, getD, take, drop, List·getD-append, length-append, length-take}
+use lib.Seq.{take-take, getD-take}
+use Rattle.layout.specs.Answers.{refuse}
 use Rattle.layout.specs.Arrays.{arrayRefusal}
 use Rattle.layout.specs.Ranges.{Sound}
 use Rattle.layout.proofs.Answers.{refuse-none}
 use Rattle.layout.proofs.Ranges.{array-sound}
 use Rattle.tag.specs.Numbers.{numberOf}
-use Rattle.tag.proofs.Numbers.{number-of-two, number-of-four, take-elements}
-use Rattle.lines.specs.Headers.{headerLength, arrayIn, headerRefusal}
+use Rattle.tag.proofs.Numbers.{number-of-two, elementsFrom, take-elements}
+use Rattle.lines.specs.declared.header.Form.{Form}
+use Rattle.lines.specs.Headers.{headerRoom, form, formOf, headerForm, known, formSize, headerSize, arrayIn, headerRefusal}
 
--- the array's numbers, byte by byte
-pub array-at : (header : List ℕ) (high low : ℕ) → length header ≡ 9
-    → high ≡ getD header 5 0 * 256 + getD header 6 0 → low ≡ getD header 7 0 * 256 + getD header 8 0
-    → arrayIn header ≡ record { members = getD header 3 0; stripes = high * 65536 + low; volume = getD header 4 0 }
-unfolding arrayIn
-array-at header high low long h l =
-    rw (take-elements header 5 0 4 (omega arith), number-of-four (getD header 5 0) (getD header 6 0) (getD header 7 0) (getD header 8 0), h, l)
+-- ---- forms
 
-pub short-header : (header : List ℕ) (have : ℕ) → have < 9 → headerRefusal (take have header) ≡ 10
+-- what holds of every row, and of no form, holds of every version's
+by-row : (P : Form → Type 0) → P (form 4 0) → P (form 0 0) → (version : ℕ) → P (formOf version)
+unfolding formOf
+by-row P first none version = choose (eqb version 1)
+  where
+    choose : (t : Bool) → P (cond t (form 4 0) (form 0 0))
+    choose true = first
+    choose false = none
+
+pub wide-most : (version : ℕ) → formOf version .wide ≤ 8
+wide-most = by-row (λ f. f .wide ≤ 8) (lit≤ tt) (lit≤ tt)
+
+pub form-most : (version : ℕ) → 5 + formOf version .wide + formOf version .more ≤ headerRoom
+form-most = by-row (λ f. 5 + f .wide + f .more ≤ headerRoom) (lit≤ tt) (lit≤ tt)
+
+pub size-least : (version : ℕ) → 3 ≤ formSize (formOf version)
+unfolding formSize
+size-least = by-row (λ f. 3 ≤ formSize f) (lit≤ tt) (lit≤ tt)
+
+pub size-most : (version : ℕ) → formSize (formOf version) ≤ headerRoom
+unfolding formSize
+size-most = by-row (λ f. formSize f ≤ headerRoom) (lit≤ tt) (lit≤ tt)
+
+size-unknown : (version : ℕ) → formSize (formOf version) ≡ 3 → known (formOf version) ≡ false
+unfolding formSize
+size-unknown = by-row (λ f. formSize f ≡ 3 → known f ≡ false) (λ e. absurd (omega arith)) (λ e. refl)
+
+size-known : (version : ℕ) → formSize (formOf version) ≢ 3 → known (formOf version) ≡ true
+unfolding formSize
+size-known = by-row (λ f. formSize f ≢ 3 → known f ≡ true) (λ e. refl) (λ e. absurd (e refl))
+
+size-of-known : (version : ℕ) → formSize (formOf version) ≢ 3 → formSize (formOf version) ≡ 5 + formOf version .wide + formOf version .more
+unfolding formSize
+size-of-known = by-row (λ f. formSize f ≢ 3 → formSize f ≡ 5 + f .wide + f .more) (λ e. refl) (λ e. absurd (e refl))
+
+-- ---- a header that comes in pieces
+
+-- the first three bytes tell its size, whatever follows; before them it is 3
+pub size-told : (bytes more : List ℕ) → 3 ≤ length bytes → headerSize (bytes ++ more) ≡ headerSize bytes
+size-told bytes more h = ap (λ (v : ℕ). formSize (formOf v)) (List·getD-append bytes more 0 2 h)
+
+size-untold : (bytes : List ℕ) → length bytes < 3 → headerSize bytes ≡ 3
+unfolding formOf formSize
+size-untold [] h = refl
+size-untold (x ∷ []) h = refl
+size-untold (x ∷ y ∷ []) h = refl
+size-untold (x ∷ y ∷ z ∷ l) h = absurd (omega arith)
+
+-- where no piece has more bytes than the header lacks, as far as what came tells, a header that is whole has no byte too many, and
+-- what follows it changes nothing
+module _ (bytes more : List ℕ) (few : length bytes + length more ≤ headerSize bytes) where
+  size-reached : headerSize (bytes ++ more) ≤ length (bytes ++ more) → headerSize (bytes ++ more) ≡ length (bytes ++ more)
+  size-reached whole = rw length-append (go (decLt (length bytes) 3) (rw length-append at whole))
+    where
+      go : Dec (length bytes < 3) → headerSize (bytes ++ more) ≤ length bytes + length more → headerSize (bytes ++ more) ≡ length bytes + length more
+      go (yes h) l = omega (arith, size-untold bytes h, size-least (getD (bytes ++ more) 2 0))
+      go (no h) l = omega (arith, size-told bytes more (omega arith))
+
+  pub size-stays : headerSize (bytes ++ more) ≤ length (bytes ++ more) → (rest : List ℕ) → headerSize ((bytes ++ more) ++ rest) ≡ length (bytes ++ more)
+  size-stays whole rest =
+      size-told (bytes ++ more) rest (omega (arith, size-least (getD (bytes ++ more) 2 0))) ∙ size-reached whole
+
+-- ---- refusals of any bytes
+
+-- a header that is not whole is refused
+pub short-refused : (bytes : List ℕ) → length bytes < headerSize bytes → headerRefusal bytes ≡ 10
 unfolding headerRefusal
-short-header header have h =
-    let short : length (take have header) < 9 = simp length-take (omega arith) in
-    rw (lt-leb 9 (length (take have header)) short)
+short-refused bytes h = rw (lt-leb (headerSize bytes) (length bytes) h) (go (known (headerForm bytes)))
+  where
+    go : (k : Bool) → refuse (not (k && false && eqb (numberOf (take 2 bytes)) (headerSize bytes - 2))) 10 (arrayRefusal (arrayIn bytes)) ≡ 10
+    go true = refl
+    go false = refl
 
--- the tests of a header that came whole
-module _ (header : List ℕ) (have : ℕ) (long : length header ≡ 9) (whole : 9 ≤ have) where
-  all : take have header ≡ header
-  all = take-all have header (omega arith)
-
-  enough : leb 9 (length header) ≡ true
-  enough = le-leb 9 (length header) (omega arith)
-
-  following : numberOf (take 2 header) ≡ getD header 0 0 * 256 + getD header 1 0
-  following = rw (take-elements header 0 0 2 (omega arith), number-of-two (getD header 0 0) (getD header 1 0))
-
-  pub length-refused : getD header 0 0 * 256 + getD header 1 0 ≢ 7 → headerRefusal (take have header) ≡ 10
-  unfolding headerRefusal
-  length-refused e = rw (all, enough, following, ne-eqb _ _ e)
-
-  pub version-refused : getD header 0 0 * 256 + getD header 1 0 ≡ 7 → getD header 2 0 ≢ 1 → headerRefusal (take have header) ≡ 10
-  unfolding headerRefusal
-  version-refused e v = rw (all, enough, following, eq-eqb _ _ e, ne-eqb _ _ v)
-
-  pub array-decides : getD header 0 0 * 256 + getD header 1 0 ≡ 7 → getD header 2 0 ≡ 1
-      → headerRefusal (take have header) ≡ arrayRefusal (arrayIn header)
-  unfolding headerRefusal
-  array-decides e v = rw (all, enough, following, eq-eqb _ _ e, eq-eqb _ _ v)
-
--- a header that is not refused has an array whose numbers are in range
-pub header-sound : (header : List ℕ) → headerRefusal header ≡ 0 → Sound (arrayIn header)
+-- one that is not refused has an array whose numbers are in range
+pub header-sound : (bytes : List ℕ) → headerRefusal bytes ≡ 0 → Sound (arrayIn bytes)
 unfolding headerRefusal
-header-sound header e =
-    let told = leb headerLength (length header) && eqb (numberOf (take 2 header)) 7 && eqb (getD header 2 0) 1 in
-    array-sound (arrayIn header) (refuse-none told 9 (arrayRefusal (arrayIn header)) e .1)
+header-sound bytes e =
+    let told = known (headerForm bytes) && leb (headerSize bytes) (length bytes) && eqb (numberOf (take 2 bytes)) (headerSize bytes - 2) in
+    array-sound (arrayIn bytes) (refuse-none told 9 (arrayRefusal (arrayIn bytes)) e .1)
+
+-- ---- the first bytes of a buffer
+
+elements-taken : (l : List ℕ) (have i passed n : ℕ) → i + passed + n ≤ have → elementsFrom (take have l) i passed n ≡ elementsFrom l i passed n
+elements-taken l have i passed zero h = refl
+elements-taken l have i passed (suc n) h =
+    let here : i + passed < have = omega arith in
+    rw (getD-take have l (i + passed) 0 here) (ap (λ (t : List ℕ). getD l (i + passed) 0 ∷ t) (elements-taken l have i (suc passed) n (omega arith)))
+
+module _ (header : List ℕ) (have : ℕ) (long : length header ≡ headerRoom) where
+  length-taken : length (take have header) ≡ min have headerRoom
+  length-taken = length-take have header ∙ ap (λ (k : ℕ). min have k) long
+
+  pub size-short : have < 3 → headerSize (take have header) ≡ 3
+  size-short h = size-untold (take have header) (omega (arith, length-taken))
+
+  form-taken : 3 ≤ have → headerForm (take have header) ≡ headerForm header
+  form-taken h = ap formOf (getD-take have header 2 0 (omega arith))
+
+  pub size-none : 3 ≤ have → headerForm header .wide ≡ 0 → headerSize (take have header) ≡ 3
+  unfolding formSize
+  size-none h e = rw (form-taken h, e)
+
+  pub size-some : 3 ≤ have → headerForm header .wide ≢ 0 → headerSize (take have header) ≡ 5 + headerForm header .wide + headerForm header .more
+  unfolding formSize
+  size-some h e = rw (form-taken h, ne-eqb (headerForm header .wide) 0 e)
+
+  part-taken : (at n : ℕ) → at + n ≤ have → at + n ≤ headerRoom → take n (drop at (take have header)) ≡ take n (drop at header)
+  part-taken at n h l =
+      rw add-zero at
+      (take-elements (take have header) at 0 n (omega (arith, length-taken)) ∙ elements-taken header have at 0 n (omega arith)
+      ∙ sym (take-elements header at 0 n (omega arith)))
+
+  array-taken : 3 ≤ have → 5 + headerForm header .wide ≤ have → arrayIn (take have header) ≡ arrayIn header
+  unfolding arrayIn
+  array-taken h room =
+      rw (
+        form-taken h,
+        part-taken 5 (headerForm header .wide) (omega arith) (omega (arith, form-most (getD header 2 0))),
+        getD-take have header 3 0 (omega arith),
+        getD-take have header 4 0 (omega arith),
+      )
+
+  -- the tests, with the size as the code has it
+  module _ (size : ℕ) (told : size ≡ headerSize (take have header)) where
+    pub unknown-refused : size ≡ 3 → headerRefusal (take have header) ≡ 10
+    unfolding headerRefusal
+    unknown-refused e = rw (size-unknown (getD (take have header) 2 0) (sym told ∙ e))
+
+    pub lacking-refused : have < size → headerRefusal (take have header) ≡ 10
+    lacking-refused h = short-refused (take have header) (omega (arith, length-taken))
+
+    module _ (some : size ≢ 3) (enough : size ≤ have) where
+      yes-known : known (headerForm (take have header)) ≡ true
+      yes-known = size-known (getD (take have header) 2 0) (λ e. some (told ∙ e))
+
+      all-there : leb (headerSize (take have header)) (length (take have header)) ≡ true
+      all-there = le-leb (headerSize (take have header)) (length (take have header)) (omega (arith, length-taken, size-most (getD (take have header) 2 0)))
+
+      three : 3 ≤ have
+      three = omega (arith, size-least (getD (take have header) 2 0))
+
+      following : numberOf (take 2 (take have header)) ≡ getD header 0 0 * 256 + getD header 1 0
+      following =
+          rw (take-take 2 have header (omega (arith, three)), take-elements header 0 0 2 (omega arith), number-of-two (getD header 0 0) (getD header 1 0))
+
+      pub whole-array : arrayIn (take have header) ≡ arrayIn header
+      whole-array =
+          let whole = size-of-known (getD (take have header) 2 0) (λ f. some (told ∙ f)) in
+          let came : 5 + headerForm (take have header) .wide ≤ have = omega (arith, whole) in
+          let room : 5 + headerForm header .wide ≤ have = rw (form-taken three) at came in
+          array-taken three room
+
+      pub length-refused : getD header 0 0 * 256 + getD header 1 0 ≢ size - 2 → headerRefusal (take have header) ≡ 10
+      unfolding headerRefusal
+      length-refused e = rw (yes-known, all-there, following, ← told, ne-eqb _ _ e)
+
+      pub array-decides : getD header 0 0 * 256 + getD header 1 0 ≡ size - 2 → headerRefusal (take have header) ≡ arrayRefusal (arrayIn header)
+      unfolding headerRefusal
+      array-decides e = rw (yes-known, all-there, following, ← told, eq-eqb _ _ e, whole-array)
+
+  -- so the array of a header that is not refused is read from the buffer, whatever stands behind the header there
+  pub array-there : headerRefusal (take have header) ≡ 0 → arrayIn (take have header) ≡ arrayIn header
+  array-there e =
+      let size = headerSize (take have header) in
+      whole-array size refl (λ z. let n : _≡_ {A = ℕ} 0 10 = sym e ∙ unknown-refused size refl z in omega arith)
+      (go (decLt have size))
+    where
+      go : Dec (have < headerSize (take have header)) → headerSize (take have header) ≤ have
+      go (yes h) = let n : _≡_ {A = ℕ} 0 10 = sym e ∙ lacking-refused (headerSize (take have header)) refl h in absurd (omega arith)
+      go (no h) = omega arith

@@ -4,6 +4,7 @@ mod header;
 pub use header::HEADER;
 pub use header::array_in;
 pub use header::header_refusal;
+pub use header::header_size;
 use layout::Array;
 use verdict::Verdict;
 ghost use mathlib.Core.List.{_++_};
@@ -21,11 +22,7 @@ fn put(out: &mut [u8], at: usize, bytes: &[u8]) -> usize
     requires { ⌜ at + length (now bytes) ≤ length (now out) ⌝ }
     ensures { λ r. ⌜ Written (now (out .entry)) at (now (bytes .entry)) (now (out .exit)) r ⌝ }
 {
-    let mut i: usize = 0;
-    while i < bytes.len() {
-        out[at + i] = bytes[i];
-        i += 1;
-    }
+    copy::put(out, at, bytes);
     at + bytes.len()
 }
 

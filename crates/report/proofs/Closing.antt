@@ -3,23 +3,24 @@ use mathlib.Core.Path.{_≡_, ap₂}
 use mathlib.Core.List.{List, [], _++_, append-nil}
 use Prim.Native.Nat.{ℕ, _-_, _≤_, _<_}
 use native.Mathlib.Omega.{arith}
-use borrow.Author.Tests.{le-ltb, lt-ltb, lt-leb}
+use borrow.Author.Tests.{le-ltb, lt-ltb}
 use lib.ListN.{length}
 use lib.Seq.{take-all}
 use Rattle.layout.specs.declared.Array.{Array}
 use Rattle.layout.proofs.Ranges.{stripe-sound}
 use Rattle.stripe.specs.Stripes.{stripeLength}
 use Rattle.lines.specs.Lines.{refusedLine, totalLine, Tally, lineRoom}
-use Rattle.lines.specs.Headers.{headerLength, headerRefusal}
+use Rattle.lines.specs.Headers.{headerSize}
+use Rattle.lines.proofs.Headers.{short-refused}
 use Rattle.report.specs.declared.Report.{Report}
 use Rattle.report.specs.Reports.{ending, stripeLines, reportOf}
 use Rattle.report.specs.Feeding.{closeLine}
 use Rattle.report.proofs.Stages.{Stage, inHeader, inStripe, behind, over, toSay, Stands}
 use Rattle.report.proofs.Striping.{one-left}
 
-short-header-refused : (h : List ℕ) → length h < headerLength → refusedLine 10 ≡ reportOf (h ++ [])
-unfolding reportOf headerRefusal
-short-header-refused h l = rw (append-nil h, take-all headerLength h (omega arith), lt-leb headerLength (length h) l)
+short-header-refused : (h : List ℕ) → length h < headerSize h → refusedLine 10 ≡ reportOf (h ++ [])
+unfolding reportOf
+short-header-refused h l = rw (append-nil h, take-all (headerSize h) h (omega arith), short-refused h l)
 
 short-stripe-refused : (a : Array) (stripe : ℕ) (t : Tally) (h : List ℕ) → stripe < a .stripes → length h < stripeLength a
     → refusedLine 11 ≡ stripeLines a (a .stripes - stripe) stripe t (h ++ [])

@@ -8,19 +8,20 @@ use native.Mathlib.Nat.{sub-zero, zero-min, min-zero, suc-min-suc}
 use native.Mathlib.Omega.{arith}
 use borrow.Author.Tests.{lt-ltb, le-ltb, eq-eqb, ne-eqb}
 use lib.ListN.{length, take, length-take}
-use lib.Seq.{sets, take-all}
+use lib.Seq.{sets}
 use Rattle.layout.specs.declared.Array.{Array}
 use Rattle.scan.specs.declared.Scan.{Scan}
 use Rattle.scan.specs.Scans.{startState, startWork}
 use Rattle.lines.specs.Text.{Written}
 use Rattle.lines.specs.Lines.{firstLine, refusedLine, totalLine}
-use Rattle.lines.specs.Headers.{arrayIn, headerRefusal}
+use Rattle.lines.specs.Headers.{headerRoom, headerSize, arrayIn, headerRefusal}
+use Rattle.lines.proofs.Headers.{array-there}
 use Rattle.lines.proofs.Texts.{line-long}
 use Rattle.report.specs.declared.Report.{Report}
 use Rattle.report.specs.declared.Fed.{Fed}
 use Rattle.report.specs.Reports.{none}
 use Rattle.report.proofs.Choosing.{without-room, without-input, in-the-header, behind-the-last}
-use Rattle.report.specs.Feeding.{Step, Does, holding, entering, ended, headerWhole, headerTook, headerLacks, stripeFit, blockLacks, stripeTook, skipped, stageStep, feedStep, tallyOf, closeLine}
+use Rattle.report.specs.Feeding.{Step, Does, holding, entering, ended, headerCame, headerWhole, headerHeld, headerTook, headerLacks, stripeFit, blockLacks, stripeTook, skipped, stageStep, feedStep, tallyOf, closeLine}
 
 -- a call that does a step does any that equals it
 pub does-same : {s t : Step} {a : Fed} {w o p : List ℕ} → s ≡ t → Does t a w o p → Does s a w o p
@@ -40,41 +41,41 @@ with-line used s t w v text o p n e f written =
 -- ---- the header
 
 module _ (used : ℕ) (r : Report) (w o p : List ℕ) (refusal n : ℕ) (s : Report)
-    (long : length (r .header) ≡ 9) (told : refusal ≡ headerRefusal (take 9 (r .header))) where
-  refused-number : refusal ≡ headerRefusal (r .header)
-  refused-number = told ∙ ap headerRefusal (take-all 9 (r .header) (omega arith))
-
+    (told : refusal ≡ headerRefusal (headerCame r)) where
   pub header-refused : refusal ≢ 0 → Written o 0 (refusedLine refusal) p n → s ≡ ended r
       → Does (headerWhole used r w) (record { state = s; used = used; written = n }) w o p
   unfolding headerWhole
   header-refused h written e =
-      rw (ne-eqb (headerRefusal (r .header)) 0 (λ z. h (refused-number ∙ z)))
-      (with-line used s (ended r) w w (refusedLine (headerRefusal (r .header))) o p n e refl (rw (sym refused-number) written))
+      rw (ne-eqb (headerRefusal (headerCame r)) 0 (λ z. h (told ∙ z)))
+      (with-line used s (ended r) w w (refusedLine (headerRefusal (headerCame r))) o p n e refl (rw (sym told) written))
 
-  pub header-accepted : (a : Array) (scan : Scan) (v : List ℕ) → refusal ≡ 0 → a ≡ arrayIn (r .header) → Written o 0 (firstLine a) p n
+  pub header-accepted : (a : Array) (scan : Scan) (v : List ℕ) → length (r .header) ≡ headerRoom → refusal ≡ 0 → a ≡ arrayIn (r .header) → Written o 0 (firstLine a) p n
       → scan ≡ startState a 0 (length w) → v ≡ startWork a 0 w → s ≡ entering 1 (r .header) scan none
       → Does (headerWhole used r w) (record { state = s; used = used; written = n }) v o p
   unfolding headerWhole
-  header-accepted a scan v z same written begun f e =
+  header-accepted a scan v long z same written begun f e =
       let state = e ∙ ap (λ (x : Scan). entering 1 (r .header) x none) begun in
-      rw (eq-eqb (headerRefusal (r .header)) 0 (sym refused-number ∙ z), sym same)
+      let taken = sym told ∙ z in
+      rw (eq-eqb (headerRefusal (headerCame r)) 0 taken, array-there (r .header) (r .have) long taken, sym same)
       (with-line used s (entering 1 (r .header) (startState a 0 (length w)) none) v (startWork a 0 w) (firstLine a) o p n state f written)
 
 module _ (r : Report) (bytes w : List ℕ) (held : Report)
     (told : held ≡ holding r (sets (r .header) (r .have) bytes) (r .have + length bytes) (r .scan)) where
-  pub header-short : (o : List ℕ) → held .have < 9
-      → Does (headerTook r bytes w) (record { state = held; used = length bytes; written = 0 }) w o o
+  took-held : headerTook r bytes w ≡ headerHeld (length bytes) held w
   unfolding headerTook
-  header-short o h =
-      let short : r .have + length bytes < 9 = omega (arith, ap (λ (s : Report). s .have) told) in
-      rw (lt-ltb (r .have + length bytes) 9 short)
-      (record { uses = refl; leaves = told; writes = refl; combines = refl; shows = refl })
+  took-held = ap (λ (s : Report). headerHeld (length bytes) s w) (sym told)
 
-  pub header-long : (a : Fed) (v o p : List ℕ) → 9 ≤ held .have → Does (headerWhole (length bytes) held w) a v o p → Does (headerTook r bytes w) a v o p
-  unfolding headerTook
-  header-long a v o p h d =
-      let whole : 9 ≤ r .have + length bytes = omega (arith, ap (λ (s : Report). s .have) told) in
-      rw (le-ltb (r .have + length bytes) 9 whole) (does-same (ap (λ (s : Report). headerWhole (length bytes) s w) (sym told)) d)
+  -- with the size as the code has it
+  module _ (size : ℕ) (asked : size ≡ headerSize (headerCame held)) where
+    pub header-short : (o : List ℕ) → held .have < size
+        → Does (headerTook r bytes w) (record { state = held; used = length bytes; written = 0 }) w o o
+    unfolding headerHeld
+    header-short o h = does-same took-held (rw (← asked, lt-ltb (held .have) size h) (silent (length bytes) held w o))
+
+    pub header-long : (a : Fed) (v o p : List ℕ) → size ≤ held .have → Does (headerWhole (length bytes) held w) a v o p
+        → Does (headerTook r bytes w) a v o p
+    unfolding headerHeld
+    header-long a v o p h d = does-same took-held (rw (← asked, le-ltb (held .have) size h) d)
 
 -- ---- the part of the input that is lacking
 

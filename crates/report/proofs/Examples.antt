@@ -3,14 +3,15 @@
 use mathlib.Core.Path.{_≡_, refl}
 use mathlib.Core.List.{List, [], _∷_, _++_}
 use Prim.Native.Nat.{ℕ}
-use Rattle.layout.specs.Arrays.{arrayRefusal}
+use Rattle.format.specs.Methods.{formatOf}
+use Rattle.layout.specs.Arrays.{arrayOf, arrayRefusal}
 use Rattle.layout.specs.declared.Array.{Array}
 use Rattle.tag.specs.Numbers.{numberOf}
 use Rattle.lines.specs.Text.{decimal, refusedWord}
 use Rattle.lines.specs.Lines.{firstLine, refusedLine, Tally, lineRoom}
-use Rattle.lines.specs.Headers.{arrayIn, headerRefusal}
+use Rattle.lines.specs.Headers.{formOf, formSize, arrayIn, headerRefusal}
 use Rattle.report.specs.Reports.{ending, stripeLines, reportOf}
-use Rattle.report.specs.Feeding.{headerWhole, headerTook, stageStep, feedStep, closeLine, freshReport}
+use Rattle.report.specs.Feeding.{headerWhole, headerHeld, headerTook, stageStep, feedStep, closeLine, freshReport}
 use Rattle.report.specs.Fills.{fillSteps, fillStep, fedText}
 
 -- "REFUSED ", a digit, and the end of the line
@@ -19,25 +20,25 @@ refusedWith digit = 0x52 ∷ 0x45 ∷ 0x46 ∷ 0x55 ∷ 0x53 ∷ 0x45 ∷ 0x44 �
 
 -- no byte at all
 nothing-came : reportOf [] ≡ 0x52 ∷ 0x45 ∷ 0x46 ∷ 0x55 ∷ 0x53 ∷ 0x45 ∷ 0x44 ∷ 0x20 ∷ 0x31 ∷ 0x30 ∷ 0x0A ∷ []
-unfolding reportOf headerRefusal arrayRefusal arrayIn numberOf refusedLine refusedWord decimal
+unfolding reportOf headerRefusal formOf formSize arrayRefusal arrayIn numberOf refusedLine refusedWord decimal
 nothing-came = refl
 
 -- another length; another version
 other-length : reportOf (0 ∷ 8 ∷ 1 ∷ 3 ∷ 7 ∷ 0 ∷ 0 ∷ 0 ∷ 1 ∷ []) ≡ refusedLine 10
-unfolding reportOf headerRefusal arrayRefusal arrayIn numberOf
+unfolding reportOf headerRefusal formOf formSize arrayRefusal arrayIn numberOf
 other-length = refl
 
 other-version : reportOf (0 ∷ 7 ∷ 2 ∷ 3 ∷ 7 ∷ 0 ∷ 0 ∷ 0 ∷ 1 ∷ []) ≡ refusedLine 10
-unfolding reportOf headerRefusal arrayRefusal arrayIn numberOf
+unfolding reportOf headerRefusal formOf formSize arrayRefusal arrayIn numberOf
 other-version = refl
 
 -- two members; no stripe
 two-members : reportOf (0 ∷ 7 ∷ 1 ∷ 2 ∷ 7 ∷ 0 ∷ 0 ∷ 0 ∷ 1 ∷ []) ≡ refusedWith 0x31
-unfolding reportOf headerRefusal arrayRefusal arrayIn numberOf refusedLine refusedWord decimal refusedWith
+unfolding reportOf headerRefusal formOf formSize arrayRefusal arrayIn numberOf refusedLine refusedWord decimal refusedWith
 two-members = refl
 
 no-stripes : reportOf (0 ∷ 7 ∷ 1 ∷ 3 ∷ 7 ∷ 0 ∷ 0 ∷ 0 ∷ 0 ∷ []) ≡ refusedWith 0x32
-unfolding reportOf headerRefusal arrayRefusal arrayIn numberOf refusedLine refusedWord decimal refusedWith
+unfolding reportOf headerRefusal formOf formSize arrayRefusal arrayIn numberOf refusedLine refusedWord decimal refusedWith
 no-stripes = refl
 
 -- "REFUSED 11"
@@ -45,8 +46,8 @@ refusedEleven : List ℕ
 refusedEleven = 0x52 ∷ 0x45 ∷ 0x46 ∷ 0x55 ∷ 0x53 ∷ 0x45 ∷ 0x44 ∷ 0x20 ∷ 0x31 ∷ 0x31 ∷ 0x0A ∷ []
 
 -- three members and one stripe, and no byte of it: the first line, and refusal 11
-ends-early : reportOf (0 ∷ 7 ∷ 1 ∷ 3 ∷ 7 ∷ 0 ∷ 0 ∷ 0 ∷ 1 ∷ []) ≡ firstLine (record { members = 3; stripes = 1; volume = 7 }) ++ refusedEleven
-unfolding reportOf stripeLines headerRefusal arrayRefusal arrayIn numberOf refusedLine refusedWord decimal refusedEleven
+ends-early : reportOf (0 ∷ 7 ∷ 1 ∷ 3 ∷ 7 ∷ 0 ∷ 0 ∷ 0 ∷ 1 ∷ []) ≡ firstLine (arrayOf 3 1 7) ++ refusedEleven
+unfolding formatOf formOf formSize reportOf stripeLines headerRefusal arrayRefusal arrayIn numberOf refusedLine refusedWord decimal refusedEleven
 ends-early = refl
 
 -- a byte behind the last stripe
@@ -58,6 +59,7 @@ goes-on a t byte bytes = refl
 three-pieces : (w : List ℕ) → fedText lineRoom freshReport ((0 ∷ 7 ∷ []) ∷ [] ∷ (1 ∷ 2 ∷ 7 ∷ 0 ∷ 0 ∷ 0 ∷ 1 ∷ 9 ∷ 9 ∷ []) ∷ []) w ≡ refusedWith 0x31
 unfolding
     headerWhole
+    headerHeld
     headerTook
     stageStep
     feedStep
@@ -66,6 +68,8 @@ unfolding
     closeLine
     freshReport
     headerRefusal
+    formOf
+    formSize
     arrayRefusal
     arrayIn
     numberOf

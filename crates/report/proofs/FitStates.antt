@@ -3,13 +3,14 @@ use mathlib.Core.Path.{_≡_, refl, ap, _∙_}
 use mathlib.Core.Bool.{Bool, true, false, cond, _&&_}
 use mathlib.Core.Logic.{_≢_}
 use mathlib.Core.List.{List}
-use Prim.Native.Nat.{ℕ, _+_, _*_, _≤_, _<_}
+use Prim.Native.Nat.{ℕ, _+_, _≤_, _<_}
 use native.Mathlib.Omega.{arith}
 use borrow.Author.Tests.{ltb-true, leb-true, eqb-true, lt-ltb, le-ltb, eq-eqb, ne-eqb}
 use lib.Dec.{leb, ltb, eqb}
 use lib.ListN.{length}
 use Rattle.layout.specs.Arrays.{stripeRefusal}
 use Rattle.layout.proofs.Ranges.{stripe-sound}
+use Rattle.stripe.specs.Stripes.{stripeLength}
 use Rattle.scan.specs.declared.Scan.{Scan}
 use Rattle.scan.specs.Scans.{pieceRefusal, advanced, pieceState}
 use Rattle.report.specs.declared.Report.{Report}
@@ -22,7 +23,7 @@ both false t e = (e, (cc))
 pub record Fit (r : Report) : Type 0 where
   pub sound : stripeRefusal (r .scan .array) (r .scan .stripe) ≡ 0
   pub members : r .scan .array .members ≤ 16
-  pub short : r .have < 520 * r .scan .array .members
+  pub short : r .have < stripeLength (r .scan .array)
   pub stripe : r .scan .stripe ≤ 268435456
   pub clean : r .clean ≤ r .scan .stripe
   pub bad : r .bad ≤ r .scan .stripe
@@ -33,7 +34,7 @@ module _ (r : Report) where
   sound-test = eqb (stripeRefusal (r .scan .array) (r .scan .stripe)) 0
 
   abbrev short-test : Bool
-  short-test = ltb (r .have) (520 * r .scan .array .members)
+  short-test = ltb (r .have) (stripeLength (r .scan .array))
 
   abbrev few-tests : Bool
   few-tests = leb (r .clean) (r .scan .stripe) && leb (r .bad) (r .scan .stripe) && leb (r .torn) (r .scan .stripe)
@@ -43,16 +44,16 @@ module _ (r : Report) where
   unfolding stripeFit
   out-of-range h = rw (ne-eqb (stripeRefusal (r .scan .array) (r .scan .stripe)) 0 h)
 
-  pub too-much : stripeRefusal (r .scan .array) (r .scan .stripe) ≡ 0 → 520 * r .scan .array .members ≤ r .have → stripeFit r ≡ false
+  pub too-much : stripeRefusal (r .scan .array) (r .scan .stripe) ≡ 0 → stripeLength (r .scan .array) ≤ r .have → stripeFit r ≡ false
   unfolding stripeFit
   too-much e h =
-      rw (eq-eqb (stripeRefusal (r .scan .array) (r .scan .stripe)) 0 e, le-ltb (r .have) (520 * r .scan .array .members) h)
+      rw (eq-eqb (stripeRefusal (r .scan .array) (r .scan .stripe)) 0 e, le-ltb (r .have) (stripeLength (r .scan .array)) h)
 
-  pub counts-decide : stripeRefusal (r .scan .array) (r .scan .stripe) ≡ 0 → r .have < 520 * r .scan .array .members → {few : Bool} → few ≡ few-tests
+  pub counts-decide : stripeRefusal (r .scan .array) (r .scan .stripe) ≡ 0 → r .have < stripeLength (r .scan .array) → {few : Bool} → few ≡ few-tests
       → few ≡ stripeFit r
   unfolding stripeFit
   counts-decide e h told =
-      rw (eq-eqb (stripeRefusal (r .scan .array) (r .scan .stripe)) 0 e, lt-ltb (r .have) (520 * r .scan .array .members) h) told
+      rw (eq-eqb (stripeRefusal (r .scan .array) (r .scan .stripe)) 0 e, lt-ltb (r .have) (stripeLength (r .scan .array)) h) told
 
   pub fit-known : stripeFit r ≡ true → Fit r
   unfolding stripeFit
@@ -68,7 +69,7 @@ module _ (r : Report) where
       record {
         sound = sound;
         members = range .array .many;
-        short = ltb-true (r .have) (520 * r .scan .array .members) (s .1);
+        short = ltb-true (r .have) (stripeLength (r .scan .array)) (s .1);
         stripe = omega (arith, range .here, range .array .most);
         clean = leb-true (r .clean) (r .scan .stripe) (c .1);
         bad = leb-true (r .bad) (r .scan .stripe) (b .1);

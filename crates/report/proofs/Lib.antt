@@ -1,3 +1,4 @@
+pub mod Blocks
 pub mod Filling
 pub mod Scanning
 pub mod Stages
@@ -16,5 +17,6 @@ pub mod Filled
 pub mod FillRuns
 pub mod Occurring
 pub mod Theorem
+pub mod NineBytes
 pub mod Examples
 pub mod Promised

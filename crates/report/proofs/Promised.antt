@@ -8,11 +8,11 @@ use lib.ListN.{length, take}
 use contract.Lifetimes.{Lfts}
 use borrow.Fn.Kinds.{Dens, endedOf}
 use denote.Triple.Clauses.{AtExit}
-use Rattle.tag.specs.Blocks.{dataLength}
 use Rattle.lines.specs.Lines.{lineRoom}
 use Rattle.report.specs.declared.Report.{Report}
 use Rattle.report.specs.declared.Fed.{Fed}
 use Rattle.report.specs.Reports.{reportOf}
+use Rattle.report.specs.Feeding.{workLength}
 use Rattle.report.specs.Runs.{ReportRun, closed, fed}
 use Rattle.report.proofs.FillRuns.{filled-runs}
 use Rattle.report.proofs.Theorem.{run-writes-the-report}
@@ -45,6 +45,6 @@ module _ (κs : Lfts 1) (a : Dens κs close-kinds.ps) (written : ℕ) (e : AtExi
 
 -- from what new gives: the text of every run is the report of all that it used
 module _ (κs : Lfts 0) (a : Dens κs new-kinds.ps) (r : Report) (e : AtExit (endedOf 0 new-kinds.ps new-kinds.r) κs) where
-  pub calls-write-the-report : new-reads.Learnt κs a r e → {w image text : List ℕ} → length w ≡ dataLength → ReportRun r w image text
+  pub calls-write-the-report : new-reads.Learnt κs a r e → {w image text : List ℕ} → length w ≡ workLength → ReportRun r w image text
       → text ≡ reportOf image
   calls-write-the-report p long run = run-writes-the-report p long run

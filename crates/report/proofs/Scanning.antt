@@ -9,10 +9,9 @@ use lib.ListN.{length, getD}
 use Rattle.layout.specs.Answers.{answer}
 use Rattle.layout.specs.Arrays.{stripeRefusal}
 use Rattle.layout.specs.declared.Array.{Array}
-use Rattle.tag.specs.Blocks.{dataLength, blockLength}
+use Rattle.tag.specs.Blocks.{formatAt}
 use Rattle.stripe.specs.Tables.{table}
 use Rattle.stripe.specs.Stripes.{stripeLength, blockOf}
-use Rattle.stripe.specs.Formats.{t10, whole}
 use Rattle.stripe.specs.Verdicts.{verdict, scrubBlocks}
 use Rattle.stripe.proofs.Tables.{length-table}
 use Rattle.scan.specs.declared.Scan.{Scan}
@@ -29,35 +28,35 @@ use Rattle.report.proofs.Filling.{begun-blocks, blocks-whole, blocks-ke
 
 -- the scan of a stripe of which these bytes have come
 abbrev pub Scanned : Array → ℕ → List ℕ → Scan → List ℕ → Type 0
-Scanned a stripe bytes s w = Holds a stripe s w (table (a .members) (blockOf bytes))
+Scanned a stripe bytes s w = Holds a stripe s w (table (a .members) (blockOf (formatAt a) bytes))
 
 module _ (a : Array) (stripe : ℕ) (sound : stripeRefusal a stripe ≡ 0) where
-  pub scan-starts : (old : List ℕ) → length old ≡ dataLength → Scanned a stripe [] (startState a stripe (length old)) (startWork a stripe old)
+  pub scan-starts : (old : List ℕ) → length old ≡ formatAt a .dataLength → Scanned a stripe [] (startState a stripe (length old)) (startWork a stripe old)
   unfolding startRefusal
   scan-starts old long =
       subst (λ (history : List (List ℕ)). Holds a stripe (startState a stripe (length old)) (startWork a stripe old) history)
-      (begun-blocks blockLength (a .members)) (start-holds a stripe old accepted refl refl)
+      (begun-blocks (formatAt a .blockLength) (a .members)) (start-holds a stripe old accepted refl refl)
     where
       accepted : startRefusal a stripe (length old) ≡ 0
-      accepted = rw (sound, eq-eqb (length old) dataLength long)
+      accepted = rw (sound, eq-eqb (length old) (formatAt a .dataLength) long)
 
   module _ (s : Scan) (w h : List ℕ) (t : Scanned a stripe h s w) where
-    pub work-stays-long : length w ≡ dataLength
-    work-stays-long = work-long a stripe sound s w (table (a .members) (blockOf h)) t
+    pub work-stays-long : length w ≡ formatAt a .dataLength
+    work-stays-long = work-long a stripe sound s w (table (a .members) (blockOf (formatAt a) h)) t
 
-    pub scan-goes-on : (x : List ℕ) (m p : ℕ) → length h ≡ blockLength * m + p → p + length x ≤ blockLength → m < a .members
+    pub scan-goes-on : (x : List ℕ) (m p : ℕ) → length h ≡ formatAt a .blockLength * m + p → p + length x ≤ formatAt a .blockLength → m < a .members
         → Scanned a stripe (h ++ x) (pieceState s m x (length w)) (pieceWork s m x w)
     scan-goes-on x m p at room l =
         subst (λ (history : List (List ℕ)). Holds a stripe (pieceState s m x (length w)) (pieceWork s m x w) history)
-        (blocks-kept blockLength h x m p at room (a .members) (scrubBlocks a stripe) l)
-        (piece-holds a stripe sound s w (table (a .members) (blockOf h)) t m x refl refl)
+        (blocks-kept (formatAt a .blockLength) h x m p at room (a .members) (scrubBlocks a stripe) l)
+        (piece-holds a stripe sound s w (table (a .members) (blockOf (formatAt a) h)) t m x refl refl)
 
     pub scan-judges : length h ≡ stripeLength a → finishNumbers s w ≡ 1 ∷ 0 ∷ verdictOf a stripe h
     scan-judges e =
-        let blocks = table (a .members) (blockOf h) in
-        let all : (i : ℕ) → i < length blocks → length (getD blocks i []) ≡ blockLength =
-        λ i l. blocks-whole blockLength (a .members) h e i (rw (length-table (a .members) (blockOf h)) at l) in
-        let last = finish-answers (whole t10) (a .members) (scrubBlocks a stripe) blocks all in
-        let told : answerTo (whole t10) (a .members) (scrubBlocks a stripe) blocks finish ≡ answer 0 (scrubBlocks a stripe blocks) = cc last in
+        let blocks = table (a .members) (blockOf (formatAt a) h) in
+        let all : (i : ℕ) → i < length blocks → length (getD blocks i []) ≡ formatAt a .blockLength =
+        λ i l. blocks-whole (formatAt a .blockLength) (a .members) h e i (rw (length-table (a .members) (blockOf (formatAt a) h)) at l) in
+        let last = finish-answers (formatAt a .blockLength) (a .members) (scrubBlocks a stripe) blocks all in
+        let told : answerTo (formatAt a .blockLength) (a .members) (scrubBlocks a stripe) blocks finish ≡ answer 0 (scrubBlocks a stripe blocks) = cc last in
         finish-numbers-are a stripe sound s w blocks t
-        ∙ call-answered t10 (a .members) (verdict a stripe) (held s w) blocks (t .follows) (verdicts-even a stripe) finish ∙ told
+        ∙ call-answered (formatAt a) (a .members) (verdict a stripe) (held (formatAt a) s w) blocks (t .follows) (verdicts-even a stripe) finish ∙ told

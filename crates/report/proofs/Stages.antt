@@ -6,13 +6,12 @@ use Prim.Native.Nat.{ℕ, _-_, _≤_, _<_}
 use lib.ListN.{length, take}
 use Rattle.layout.specs.Arrays.{stripeRefusal}
 use Rattle.layout.specs.declared.Array.{Array}
-use Rattle.tag.specs.Blocks.{dataLength}
 use Rattle.stripe.specs.Stripes.{stripeLength}
 use Rattle.lines.specs.Lines.{Tally, lineRoom}
-use Rattle.lines.specs.Headers.{headerLength}
+use Rattle.lines.specs.Headers.{headerRoom, headerSize}
 use Rattle.report.specs.declared.Report.{Report}
 use Rattle.report.specs.Reports.{ending, stripeLines, reportOf}
-use Rattle.report.specs.Feeding.{Step, tallyOf}
+use Rattle.report.specs.Feeding.{workLength, Step, tallyOf}
 use Rattle.report.proofs.Scanning.{Scanned}
 
 -- these bytes of the header have come; these bytes of a stripe, and this was counted before it; all stripes; the last line is written
@@ -38,10 +37,10 @@ pub record Counted (stripe : ℕ) (t : Tally) : Type 0 where
 pub record StandsInHeader (h : List ℕ) (r : Report) (w : List ℕ) : Type 0 where
   pub stage : r .stage ≡ 0
   pub have : r .have ≡ length h
-  pub short : length h < headerLength
-  pub long : length (r .header) ≡ headerLength
+  pub short : length h < headerSize h
+  pub long : length (r .header) ≡ headerRoom
   pub bytes : take (length h) (r .header) ≡ h
-  pub work : length w ≡ dataLength
+  pub work : length w ≡ workLength
 
 pub record StandsInStripe (a : Array) (stripe : ℕ) (t : Tally) (h : List ℕ) (r : Report) (w : List ℕ) : Type 0 where
   pub stage : r .stage ≡ 1

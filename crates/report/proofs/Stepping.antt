@@ -2,17 +2,20 @@
 -- and what it writes fits. Assumes nothing.
 use mathlib.Core.Path.{_≡_, refl, sym, ap, _∙_}
 use mathlib.Core.List.{List, [], _∷_, _++_, append-nil}
-use Prim.Native.Nat.{ℕ, zero, suc, _≤_, _<_, zero-le}
+use Prim.Native.Nat.{ℕ, zero, suc, _-_, _≤_, _<_, zero-le}
 use native.Mathlib.Decide.{decLt}
 use native.Mathlib.Omega.{arith}
 use lib.ListN.{length, take, length-take}
 use lib.Seq.{take-length}
 use Rattle.layout.specs.declared.Array.{Array}
+use Rattle.tag.specs.Blocks.{formatAt}
 use Rattle.lines.specs.Lines.{refusedLine, Tally, lineRoom}
+use Rattle.lines.specs.Headers.{headerSize}
 use Rattle.lines.proofs.Lines.{refused-line-fits}
 use Rattle.report.specs.declared.Report.{Report}
 use Rattle.report.specs.Reports.{ending}
 use Rattle.report.specs.Feeding.{Step, idle, headerLacks, blockLacks, headerTook, stripeTook, stageStep, feedStep}
+use Rattle.report.proofs.Blocks.{rest-short}
 use Rattle.report.proofs.Stages.{Stage, inHeader, inStripe, behind, over, toSay, Stands, Leads}
 use Rattle.report.proofs.Beginning.{header-leads}
 use Rattle.report.proofs.Choosing.{without-room, without-input, with-both, in-the-header, in-a-stripe, behind-the-last, when-over}
@@ -58,11 +61,13 @@ module _ (r : Report) (input w : List ℕ) (room : ℕ) where
     -- by where it stands
     stage-feeds : (g : Stage) → Stands g r w → Feeds g input room (stageStep r input w)
     stage-feeds (inHeader h) q =
+        let lacks : headerLacks r ≡ headerSize h - length h = rw (q .have, q .bytes) in
         rw (in-the-header r input w (q .stage)) (over-first (inHeader h) (headerLacks r) (headerTook r (take (headerLacks r) input) w)
-        (omega (arith, q .have, q .short)) (header-leads h r w (take (headerLacks r) input) q (simp length-take (omega (arith, q .have, q .short)))))
+        (rw lacks (omega (arith, q .short))) (header-leads h r w (take (headerLacks r) input) q (rw lacks (simp length-take (omega (arith, q .short))))))
     stage-feeds (inStripe a stripe t h) q =
         rw (in-a-stripe r input w (q .stage) (is-fit a stripe t h r w q)) (over-first (inStripe a stripe t h) (blockLacks r)
-        (stripeTook r (take (blockLacks r) input) w) (omega arith) (stripe-leads a stripe t h r w q (take (blockLacks r) input) (simp length-take (omega arith))))
+        (stripeTook r (take (blockLacks r) input) w) (omega (arith, rest-short (formatAt (r .scan .array)) (r .have)))
+        (stripe-leads a stripe t h r w q (take (blockLacks r) input) (simp length-take (omega (arith, rest-short (formatAt a) (r .have))))))
     stage-feeds (behind a t) q =
         rw (behind-the-last r input w (q .stage)) record {
           to = over;

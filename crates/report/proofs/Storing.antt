@@ -1,21 +1,16 @@
 -- Bytes stored behind those that an array already holds. Assumes nothing.
-use mathlib.Core.Path.{_≡_, refl, sym, _∙_}
+use mathlib.Core.Path.{_≡_, refl}
 use mathlib.Core.List.{List, _++_}
 use Prim.Native.Nat.{ℕ, _+_, _≤_}
 use native.Mathlib.Omega.{arith}
-use lib.ListN.{length, take, drop, length-append}
-use lib.Seq.{sets, sets-eq, length-sets, take-at, take-all}
+use lib.ListN.{length, take, drop}
+use lib.Seq.{sets, sets-eq, take-at}
 
 module _ (size : ℕ) (l h x : List ℕ) (long : length l ≡ size) (held : take (length h) l ≡ h) (room : length h + length x ≤ size) where
   pub stored : take (length (h ++ x)) (sets l (length h) x) ≡ h ++ x
   stored =
       let fits : length h + length x ≤ length l = omega arith in
       rw (sets-eq x l (length h) fits, held) (take-at (h ++ x) (drop (length h + length x) l) (length (h ++ x)) refl)
-
-  pub stored-whole : size ≤ length h + length x → sets l (length h) x ≡ h ++ x
-  stored-whole full =
-      let all : length (sets l (length h) x) ≤ length (h ++ x) = simp (length-sets, length-append) (omega arith) in
-      sym (take-all (length (h ++ x)) (sets l (length h) x) all) ∙ stored
 
 -- what was written at the start of a buffer can be read there
 pub written-there : (out line : List ℕ) → length line ≤ length out → take (length line) (sets out 0 line) ≡ line

@@ -1,13 +1,15 @@
 -- The steps within the stripes, one law for each way out: what the calls on the way give makes the step done. Assumes nothing.
 use mathlib.Core.Path.{_≡_, refl, sym, ap, ap₂, _∙_, subst}
 use mathlib.Core.List.{List, [], _∷_}
-use Prim.Native.Nat.{ℕ, _+_, _*_, _/_, _≤_, _<_}
+use Prim.Native.Nat.{ℕ, _+_, _≤_, _<_}
+use native.Mathlib.Omega.{arith}
 use borrow.Author.Tests.{lt-ltb, le-ltb}
 use lib.ListN.{length}
 use Rattle.verdict.specs.declared.Verdict.{Verdict}
 use Rattle.verdict.specs.declared.Scrubbed.{Scrubbed}
 use Rattle.verdict.specs.declared.Scrubbed.the-variants.{Refused, Found}
 use Rattle.verdict.specs.Verdicts.{verdictNumbers, scrubbedNumbers}
+use Rattle.stripe.specs.Stripes.{stripeLength}
 use Rattle.scan.specs.declared.Scan.{Scan}
 use Rattle.scan.specs.Scans.{startState, startWork, pieceState, pieceWork, finishNumbers}
 use Rattle.lines.specs.Text.{Written}
@@ -16,7 +18,7 @@ use Rattle.lines.proofs.Texts.{line-long}
 use Rattle.report.specs.declared.Report.{Report}
 use Rattle.report.specs.declared.Fed.{Fed}
 use Rattle.report.specs.Reports.{counted}
-use Rattle.report.specs.Feeding.{Step, Does, tallyOf, holding, entering, ended, stripeJudged, stripeWhole, stripeTook}
+use Rattle.report.specs.Feeding.{Step, Does, tallyOf, holding, entering, ended, stripeJudged, stripeWhole, memberNow, stripeTook}
 
 module _ (used : ℕ) (r : Report) (w : List ℕ) where
   -- ---- the stripe has its verdict
@@ -80,29 +82,33 @@ module _ (used : ℕ) (r : Report) (w : List ℕ) where
         (sym (whole-with (verdictNumbers v)) ∙ ap (λ (x : Scrubbed). stripeWhole used r w (scrubbedNumbers x)) (sym e)
         ∙ ap (stripeWhole used r w) told) did
 
--- ---- bytes of one block
+-- ---- bytes of one block, of a member, with the length of the stripe as the code has them
 
-module _ (r : Report) (bytes w : List ℕ) {scan : Scan} {w′ : List ℕ} {held : Report}
-    (scanned : scan ≡ pieceState (r .scan) (r .have / 520) bytes (length w)) (combined : w′ ≡ pieceWork (r .scan) (r .have / 520) bytes w)
+module _ (r : Report) (bytes w : List ℕ) {member size : ℕ} (there : member ≡ memberNow r) (long : size ≡ stripeLength (r .scan .array))
+    {scan : Scan} {w′ : List ℕ} {held : Report}
+    (scanned : scan ≡ pieceState (r .scan) member bytes (length w)) (combined : w′ ≡ pieceWork (r .scan) member bytes w)
     (holds : held ≡ holding r (r .header) (r .have + length bytes) scan) where
-  -- the state with the scan as the specification has it
+  -- the state and the buffer as the specification has them
   abbrev due : Report
-  due = holding r (r .header) (r .have + length bytes) (pieceState (r .scan) (r .have / 520) bytes (length w))
+  due = holding r (r .header) (r .have + length bytes) (pieceState (r .scan) (memberNow r) bytes (length w))
 
   held-due : held ≡ due
-  held-due = holds ∙ ap (holding r (r .header) (r .have + length bytes)) scanned
+  held-due = holds ∙ ap (holding r (r .header) (r .have + length bytes)) (scanned ∙ ap (λ (m : ℕ). pieceState (r .scan) m bytes (length w)) there)
 
-  pub still-short : r .have + length bytes < 520 * r .scan .array .members → {out : List ℕ}
+  combined-due : w′ ≡ pieceWork (r .scan) (memberNow r) bytes w
+  combined-due = combined ∙ ap (λ (m : ℕ). pieceWork (r .scan) m bytes w) there
+
+  pub still-short : r .have + length bytes < size → {out : List ℕ}
       → Does (stripeTook r bytes w) (record { state = held; used = length bytes; written = 0 }) w′ out out
   unfolding stripeTook
   still-short l =
-      rw (lt-ltb (r .have + length bytes) (520 * r .scan .array .members) l)
-      record { uses = refl; leaves = held-due; writes = refl; combines = combined; shows = refl }
+      rw (lt-ltb (r .have + length bytes) (stripeLength (r .scan .array)) (omega (arith, long)))
+      record { uses = refl; leaves = held-due; writes = refl; combines = combined-due; shows = refl }
 
-  pub now-whole : 520 * r .scan .array .members ≤ r .have + length bytes → {out out′ last : List ℕ} {fed : Fed}
+  pub now-whole : size ≤ r .have + length bytes → {out out′ last : List ℕ} {fed : Fed}
       → Does (stripeWhole (length bytes) held w′ (finishNumbers (held .scan) w′)) fed last out out′ → Does (stripeTook r bytes w) fed last out out′
   unfolding stripeTook
   now-whole l {out = out} {out′ = out′} {last = last} {fed = fed} did =
-      rw (le-ltb (r .have + length bytes) (520 * r .scan .array .members) l)
+      rw (le-ltb (r .have + length bytes) (stripeLength (r .scan .array)) (omega (arith, long)))
       (subst (λ (s : Step). Does s fed last out out′)
-      (ap₂ (λ (h : Report) (x : List ℕ). stripeWhole (length bytes) h x (finishNumbers (h .scan) x)) held-due combined) did)
+      (ap₂ (λ (h : Report) (x : List ℕ). stripeWhole (length bytes) h x (finishNumbers (h .scan) x)) held-due combined-due) did)

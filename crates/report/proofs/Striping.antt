@@ -1,6 +1,6 @@
 -- Bytes of a stripe: the scan goes on, and with the last of them the stripe has its line, and the next stripe begins if there is one.
 -- Assumes nothing.
-use mathlib.Core.Path.{_≡_, refl, ap, _∙_}
+use mathlib.Core.Path.{_≡_, refl, sym, ap, _∙_}
 use mathlib.Core.Bool.{Bool, true, false, cond}
 use mathlib.Core.List.{List, [], _++_, append-assoc}
 use Prim.Native.Nat.{ℕ, suc, _+_, _-_, _/_, _%_, _≤_, _<_, zero-le}
@@ -12,7 +12,7 @@ use lib.Seq.{take-at, drop-at}
 use Rattle.layout.specs.Arrays.{stripeRefusal}
 use Rattle.layout.specs.declared.Array.{Array}
 use Rattle.layout.proofs.Ranges.{stripe-sound, sound-stripe}
-use Rattle.tag.specs.Blocks.{blockLength}
+use Rattle.tag.specs.Blocks.{formatAt}
 use Rattle.stripe.specs.Stripes.{stripeLength}
 use Rattle.scan.specs.declared.Scan.{Scan}
 use Rattle.scan.specs.Scans.{startState, startWork, pieceState, pieceWork, finishNumbers}
@@ -20,7 +20,8 @@ use Rattle.lines.specs.Lines.{stripeLine, Tally}
 use Rattle.lines.proofs.Lines.{stripe-line-fits}
 use Rattle.report.specs.declared.Report.{Report}
 use Rattle.report.specs.Reports.{counted, verdictOf, stripeLines}
-use Rattle.report.specs.Feeding.{Step, tallyOf, holding, entering, stripeFit, stripeJudged, stripeWhole, stripeTook}
+use Rattle.report.specs.Feeding.{Step, tallyOf, holding, entering, stripeFit, stripeJudged, stripeWhole, memberNow, stripeTook}
+use Rattle.report.proofs.Blocks.{stripe-some, blocks-and-rest, block-there, block-ends}
 use Rattle.report.proofs.Scanning.{Scanned, scan-starts, scan-goes-on, scan-judges, work-stays-long}
 use Rattle.report.proofs.Stages.{inStripe, behind, toSay, Counted, StandsInStripe, Leads}
 use Rattle.report.proofs.Counting.{one-more-counted}
@@ -53,7 +54,7 @@ module _ (used : ℕ) (a : Array) (stripe : ℕ) (sound : stripeRefusal a stripe
       record {
         stage = refl;
         have = refl;
-        short = omega (arith, range .array .few);
+        short = stripe-some (formatAt a) (a .members) (omega (arith, range .array .few));
         sound = on;
         tally = refl;
         counted = one-more-counted stripe t (verdictOf a stripe h) few;
@@ -144,20 +145,23 @@ module _ (a : Array) (stripe : ℕ) (t : Tally) (h : List ℕ) (r : Report) (w :
         le-leb (r .torn) stripe torn,
       )
 
-  module _ (bytes : List ℕ) (room : r .have % blockLength + length bytes ≤ blockLength) where
+  module _ (bytes : List ℕ) (room : r .have % formatAt a .blockLength + length bytes ≤ formatAt a .blockLength) where
     abbrev scan-now : Scan
-    scan-now = pieceState (r .scan) (r .have / blockLength) bytes (length w)
+    scan-now = pieceState (r .scan) (memberNow r) bytes (length w)
 
     abbrev work-now : List ℕ
-    work-now = pieceWork (r .scan) (r .have / blockLength) bytes w
+    work-now = pieceWork (r .scan) (memberNow r) bytes w
 
     abbrev held : Report
     held = holding r (r .header) (r .have + length bytes) scan-now
 
+    have-short : r .have < stripeLength a
+    have-short = omega (arith, q .have, q .short)
+
     scanned-now : Scanned a stripe (h ++ bytes) scan-now work-now
     scanned-now =
-        scan-goes-on a stripe (q .sound) (r .scan) w h (q .scanned) bytes (r .have / blockLength) (r .have % blockLength)
-        (omega (arith, q .have)) room (omega (arith, q .have, q .short))
+        scan-goes-on a stripe (q .sound) (r .scan) w h (q .scanned) bytes (r .have / formatAt a .blockLength) (r .have % formatAt a .blockLength)
+        (sym (q .have) ∙ blocks-and-rest (formatAt a) (r .have)) room (block-there (formatAt a) (r .have) (a .members) have-short)
 
     still-short : r .have + length bytes < stripeLength a → StandsInStripe a stripe t (h ++ bytes) held work-now
     still-short l =
@@ -192,7 +196,7 @@ module _ (a : Array) (stripe : ℕ) (t : Tally) (h : List ℕ) (r : Report) (w :
             }
         go false e =
             let full : length (h ++ bytes) ≡ stripeLength a =
-            rw length-append (omega (arith, q .have, q .short, room, size, ltb-false (r .have + length bytes) (stripeLength (r .scan .array)) e)) in
+            rw length-append (omega (arith, q .have, blocks-and-rest (formatAt a) (r .have), block-ends (formatAt a) (r .have) (a .members) have-short, room, size, ltb-false (r .have + length bytes) (stripeLength (r .scan .array)) e)) in
             let l = whole-stripe-leads (length bytes) a stripe (q .sound) t (h ++ bytes) held work-now (q .tally) (q .counted) scanned-now full in
             record {
               to = l .to;

@@ -7,12 +7,11 @@ use mathlib.Core.Path.{_≡_, sym, ap, ap₂, refl, _∙_, subst}
 use mathlib.Core.List.{List, [], _++_}
 use Prim.Native.Nat.{ℕ, _+_, _≤_, _<_}
 use lib.ListN.{length, take, replicate, length-replicate}
-use Rattle.tag.specs.Blocks.{dataLength}
 use Rattle.stripe.specs.Tables.{joined}
 use Rattle.lines.specs.Lines.{lineRoom}
 use Rattle.report.specs.declared.Report.{Report}
 use Rattle.report.specs.Reports.{reportOf}
-use Rattle.report.specs.Feeding.{freshReport, feedLine, closeLine}
+use Rattle.report.specs.Feeding.{workLength, freshReport, feedLine, closeLine}
 use Rattle.report.specs.Fills.{fillStep, fedText}
 use Rattle.report.specs.Runs.{ReportRun, closed, fed, Reached, begun, byFeed, byFill}
 use Rattle.report.proofs.Storing.{written-there}
@@ -40,12 +39,12 @@ run-says (fed {s = s} {w = w} {w′ = w′} {out′ = out′} {image = image} in
 -- ---- from the new state, with any work buffer of as many bytes as a block has of data, whatever it holds
 
 -- every run of the calls, as they promise: with any inputs, of which each call uses what it does, and any output buffers
-pub run-writes-the-report : {s : Report} {w image text : List ℕ} → s ≡ freshReport → length w ≡ dataLength
+pub run-writes-the-report : {s : Report} {w image text : List ℕ} → s ≡ freshReport → length w ≡ workLength
     → ReportRun s w image text → text ≡ reportOf image
 run-writes-the-report {s} {w} new long run = run-says run (inHeader []) (rw new (fresh-stands w long))
 
 -- every list of pieces, empty ones too, where each call has room for a line
-pub pieces-write-the-report : (room : ℕ) → lineRoom ≤ room → (w : List ℕ) → length w ≡ dataLength
+pub pieces-write-the-report : (room : ℕ) → lineRoom ≤ room → (w : List ℕ) → length w ≡ workLength
     → (pieces : List (List ℕ)) → fedText room freshReport pieces w ≡ reportOf (joined pieces)
 pieces-write-the-report room wide w long pieces =
     subst (λ (n : ℕ). fedText n freshReport pieces w ≡ reportOf (joined pieces)) (length-replicate {A = ℕ} room 0)

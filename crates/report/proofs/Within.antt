@@ -12,10 +12,10 @@ use lib.Dec.{eqb, ltb}
 use lib.ListN.{length, getD, take, drop, length-take}
 use Rattle.stripe.specs.Stripes.{stripeLength}
 use Rattle.lines.specs.Lines.{lineRoom}
-use Rattle.lines.specs.Headers.{headerLength, arrayIn, headerRefusal}
+use Rattle.lines.specs.Headers.{headerSize, arrayIn, headerRefusal}
 use Rattle.lines.proofs.Lines.{first-line-fits, stripe-line-fits, total-line-fits, refused-line-fits}
 use Rattle.report.specs.declared.Report.{Report}
-use Rattle.report.specs.Feeding.{Step, headerWhole, headerTook, headerLacks, stripeFit, stripeJudged, stripeWhole, stripeTook, blockLacks, stageStep, feedStep, tallyOf, closeLine}
+use Rattle.report.specs.Feeding.{Step, headerCame, headerWhole, headerHeld, headerTook, headerLacks, stripeFit, stripeJudged, stripeWhole, stripeTook, blockLacks, stageStep, feedStep, tallyOf, closeLine}
 use Rattle.report.proofs.Choosing.{without-room, without-input, with-both}
 
 pub record Within (most room : ℕ) (st : Step) : Type 0 where
@@ -29,8 +29,14 @@ by-test false held failed = failed refl
 header-whole-within : (used : ℕ) (r : Report) (w : List ℕ) → Within used lineRoom (headerWhole used r w)
 unfolding headerWhole
 header-whole-within used r w =
-    by-test (eqb (headerRefusal (r .header)) 0) (λ e. rw e record { uses = le-refl used; fits = first-line-fits (arrayIn (r .header)) })
-    (λ e. rw e record { uses = le-refl used; fits = refused-line-fits (headerRefusal (r .header)) })
+    by-test (eqb (headerRefusal (headerCame r)) 0) (λ e. rw e record { uses = le-refl used; fits = first-line-fits (arrayIn (headerCame r)) })
+    (λ e. rw e record { uses = le-refl used; fits = refused-line-fits (headerRefusal (headerCame r)) })
+
+header-held-within : (used : ℕ) (r : Report) (w : List ℕ) → Within used lineRoom (headerHeld used r w)
+unfolding headerHeld
+header-held-within used r w =
+    by-test (ltb (r .have) (headerSize (headerCame r))) (λ e. rw e record { uses = le-refl used; fits = zero-le })
+    (λ e. rw e (header-whole-within used r w))
 
 stripe-judged-within : (used : ℕ) (r : Report) (w verdict : List ℕ) → Within used lineRoom (stripeJudged used r w verdict)
 unfolding stripeJudged
@@ -47,9 +53,7 @@ stripe-whole-within used r w answer =
 
 header-took-within : (r : Report) (bytes w : List ℕ) → Within (length bytes) lineRoom (headerTook r bytes w)
 unfolding headerTook
-header-took-within r bytes w =
-    by-test (ltb (r .have + length bytes) headerLength) (λ e. rw e record { uses = le-refl (length bytes); fits = zero-le })
-    (λ e. rw e (header-whole-within (length bytes) _ w))
+header-took-within r bytes w = header-held-within (length bytes) _ w
 
 stripe-took-within : (r : Report) (bytes w : List ℕ) → Within (length bytes) lineRoom (stripeTook r bytes w)
 unfolding stripeTook

@@ -7,16 +7,20 @@ use mathlib.Core.List.{List, []}
 use lib.Dec.{leb, ltb, eqb}
 use lib.ListN.{length, getD, take, drop, replicate}
 use lib.Seq.{sets}
-use Rattle.layout.specs.Arrays.{stripeRefusal}
-use Rattle.tag.specs.Blocks.{blockLength}
+use Rattle.layout.specs.Arrays.{noArray, stripeRefusal}
+use Rattle.tag.specs.Blocks.{formatAt}
 use Rattle.stripe.specs.Stripes.{stripeLength}
 use Rattle.scan.specs.declared.Scan.{Scan}
-use Rattle.scan.specs.Scans.{noArray, emptyScan, startState, startWork, pieceState, pieceWork, finishNumbers}
+use Rattle.scan.specs.Scans.{emptyScan, startState, startWork, pieceState, pieceWork, finishNumbers}
 use Rattle.lines.specs.Lines.{firstLine, refusedLine, stripeLine, Tally, totalLine, lineRoom}
-use Rattle.lines.specs.Headers.{headerLength, arrayIn, headerRefusal}
+use Rattle.lines.specs.Headers.{headerRoom, headerSize, arrayIn, headerRefusal}
 use Rattle.report.specs.declared.Report.{Report}
 use Rattle.report.specs.declared.Fed.{Fed}
 use Rattle.report.specs.Reports.{none, counted}
+
+-- the bytes of a work buffer: those of a block's data
+abbrev pub workLength : ℕ
+workLength = formatAt noArray .dataLength
 
 -- what a call leaves: how many bytes of the input it used, the state, the work buffer, and the line that it wrote, [] where it wrote none;
 -- of several calls, their lines joined
@@ -68,25 +72,31 @@ ended r =
 
 -- ---- the header
 
+-- the bytes of it that came
+abbrev pub headerCame : Report → List ℕ
+headerCame r = take (r .have) (r .header)
+
 -- the header is whole: the first line, and the scan of the first stripe; or the header's refusal
 unfoldable pub headerWhole : ℕ → Report → List ℕ → Step
 headerWhole used r work =
-    let a = arrayIn (r .header) in
-    cond (eqb (headerRefusal (r .header)) 0)
+    let a = arrayIn (headerCame r) in
+    cond (eqb (headerRefusal (headerCame r)) 0)
     (record { used = used; state = entering stripesStage (r .header) (startState a 0 (length work)) none; work = startWork a 0 work; line = firstLine a })
-    (record { used = used; state = ended r; work = work; line = refusedLine (headerRefusal (r .header)) })
+    (record { used = used; state = ended r; work = work; line = refusedLine (headerRefusal (headerCame r)) })
+
+-- more of it came: it is whole, or lacks bytes still
+unfoldable pub headerHeld : ℕ → Report → List ℕ → Step
+headerHeld used r work =
+    cond (ltb (r .have) (headerSize (headerCame r))) (record { used = used; state = r; work = work; line = [] }) (headerWhole used r work)
 
 -- bytes of the header
 unfoldable pub headerTook : Report → List ℕ → List ℕ → Step
 headerTook r bytes work =
-    let held = holding r (sets (r .header) (r .have) bytes) (r .have + length bytes) (r .scan) in
-    cond (ltb (r .have + length bytes) headerLength)
-    (record { used = length bytes; state = held; work = work; line = [] })
-    (headerWhole (length bytes) held work)
+    headerHeld (length bytes) (holding r (sets (r .header) (r .have) bytes) (r .have + length bytes) (r .scan)) work
 
--- how many bytes the header lacks
+-- how many bytes the header lacks, as far as those tell that came
 abbrev pub headerLacks : Report → ℕ
-headerLacks r = headerLength - r .have
+headerLacks r = headerSize (headerCame r) - r .have
 
 -- ---- the stripes
 
@@ -117,20 +127,22 @@ stripeWhole used r work answer =
     cond (eqb (getD answer 0 0) 1) (stripeJudged used r work (drop 2 answer))
     (record { used = used; state = ended r; work = work; line = refusedLine (getD answer 1 0) })
 
--- bytes of one block of the stripe
+-- the member whose block comes now, and how many bytes it lacks
+abbrev pub memberNow : Report → ℕ
+memberNow r = r .have / formatAt (r .scan .array) .blockLength
+
+abbrev pub blockLacks : Report → ℕ
+blockLacks r = formatAt (r .scan .array) .blockLength - r .have % formatAt (r .scan .array) .blockLength
+
+-- bytes of that block
 unfoldable pub stripeTook : Report → List ℕ → List ℕ → Step
 stripeTook r bytes work =
-    let member = r .have / blockLength in
-    let scan = pieceState (r .scan) member bytes (length work) in
-    let combined = pieceWork (r .scan) member bytes work in
+    let scan = pieceState (r .scan) (memberNow r) bytes (length work) in
+    let combined = pieceWork (r .scan) (memberNow r) bytes work in
     let held = holding r (r .header) (r .have + length bytes) scan in
     cond (ltb (r .have + length bytes) (stripeLength (r .scan .array)))
     (record { used = length bytes; state = held; work = combined; line = [] })
     (stripeWhole (length bytes) held combined (finishNumbers scan combined))
-
--- how many bytes the block lacks that comes now
-abbrev pub blockLacks : Report → ℕ
-blockLacks r = blockLength - r .have % blockLength
 
 -- ---- feed: a step for each stage
 
@@ -190,4 +202,4 @@ closeLine r room =
 -- ---- new
 
 unfoldable pub freshReport : Report
-freshReport = entering headerStage (replicate headerLength 0) (emptyScan noArray 0) none
+freshReport = entering headerStage (replicate headerRoom 0) (emptyScan noArray 0) none

@@ -5,11 +5,12 @@ use mathlib.Core.List.{List, [], _∷_, _++_}
 use lib.Dec.{ltb, eqb}
 use lib.ListN.{length, getD, take, drop}
 use Rattle.layout.specs.declared.Array.{Array}
+use Rattle.tag.specs.Blocks.{formatAt}
 use Rattle.stripe.specs.Tables.{table}
 use Rattle.stripe.specs.Stripes.{stripeLength, blockOf}
 use Rattle.stripe.specs.Verdicts.{scrubBlocks}
 use Rattle.lines.specs.Lines.{firstLine, refusedLine, stripeLine, Tally, totalLine}
-use Rattle.lines.specs.Headers.{headerLength, arrayIn, headerRefusal}
+use Rattle.lines.specs.Headers.{headerSize, arrayIn, headerRefusal}
 
 -- ---- how many stripes were clean, bad, torn
 
@@ -26,7 +27,7 @@ counted t verdict =
 
 -- the verdict of the full scrub on a stripe's bytes
 abbrev pub verdictOf : Array → ℕ → List ℕ → List ℕ
-verdictOf a stripe bytes = scrubBlocks a stripe (table (a .members) (blockOf bytes))
+verdictOf a stripe bytes = scrubBlocks a stripe (table (a .members) (blockOf (formatAt a) bytes))
 
 -- at the end the total, unless bytes follow
 unfoldable pub ending : Array → Tally → List ℕ → List ℕ
@@ -45,6 +46,6 @@ stripeLines a (suc left) stripe t bytes =
 
 unfoldable pub reportOf : List ℕ → List ℕ
 reportOf image =
-    let header = take headerLength image in
+    let header = take (headerSize image) image in
     let a = arrayIn header in
-    cond (eqb (headerRefusal header) 0) (firstLine a ++ stripeLines a (a .stripes) 0 none (drop headerLength image)) (refusedLine (headerRefusal header))
+    cond (eqb (headerRefusal header) 0) (firstLine a ++ stripeLines a (a .stripes) 0 none (drop (headerSize image) image)) (refusedLine (headerRefusal header))

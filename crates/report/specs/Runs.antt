@@ -5,11 +5,10 @@ use mathlib.Core.List.{List, [], _++_}
 use Prim.Native.Nat.{ℕ, _≤_}
 use lib.ListN.{length, take}
 use lib.Seq.{sets}
-use Rattle.tag.specs.Blocks.{dataLength}
 use Rattle.lines.specs.Lines.{lineRoom}
 use Rattle.report.specs.declared.Report.{Report}
 use Rattle.report.specs.declared.Fed.{Fed}
-use Rattle.report.specs.Feeding.{Step, feedUsed, feedState, feedWork, feedLine, closeLine, freshReport}
+use Rattle.report.specs.Feeding.{Step, workLength, feedUsed, feedState, feedWork, feedLine, closeLine, freshReport}
 use Rattle.report.specs.Fills.{fillStep}
 
 -- from a state and a work buffer, over the bytes that the calls use, to the bytes that they write; each call has an input, and an
@@ -36,7 +35,7 @@ StepRuns s w input step =
 
 -- from a new report and any work buffer of a block's data, by calls of feed and of fill
 pub data Reached : Report → List ℕ → Type 0 where
-  begun : {w : List ℕ} → length w ≡ dataLength → Reached freshReport w
+  begun : {w : List ℕ} → length w ≡ workLength → Reached freshReport w
   byFeed : {s : Report} {w : List ℕ} (input : List ℕ) (room : ℕ) → Reached s w → Reached (feedState s input w room) (feedWork s input w room)
   byFill : {s : Report} {w : List ℕ} (input : List ℕ) (room : ℕ) → Reached s w
       → Reached (fillStep s input w room .state) (fillStep s input w room .work)

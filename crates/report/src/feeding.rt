@@ -4,38 +4,38 @@ use crate::Report;
 use crate::ended;
 use crate::entering;
 use crate::stripe_took;
+use crate::stripes::block_lacks;
 use crate::stripes::stripe_fit;
-use layout::Array;
+use format::METHOD;
 use lines::HEADER;
 use lines::ROOM;
 use scan::Scan;
-use tag::BLOCK;
 use xor::least;
 ghost use mathlib.Core.Path.{_≡_};
 ghost use Prim.Native.Nat.{_+_, _-_, _≤_};
 ghost use lib.ListN.{length};
 ghost use lib.Seq.{sets};
+ghost use Rattle.layout.specs.Arrays.{noArray};
+ghost use Rattle.scan.specs.Scans.{emptyScan};
 ghost use Rattle.report.specs.Feeding.{Does, holding, headerWhole, headerTook, headerStep, stripeStep, stageStep, feedStep, closeLine, freshReport};
+
+// No scan: the state that a refused start gives.
+fn no_scan() -> Scan
+    ensures { λ r. ⌜ r ≡ emptyScan noArray 0 ⌝ }
+{
+    let mut nothing = [0u8; 1];
+    let refused = scan::start(layout::no_array(), 0, &mut nothing);
+    refused.state
+}
 
 // The state of a new report.
 pub fn new() -> Report
     ensures { λ r. ⌜ r ≡ freshReport ⌝ }
 {
-    let array = Array {
-        members: 0,
-        stripes: 0,
-        volume: 0,
-    };
-    let scan = Scan {
-        array: array,
-        stripe: 0,
-        at: [0; 16],
-        register: [0; 16],
-        tag: [0; 128],
-    };
+    let scan = no_scan();
     Report {
         stage: 0,
-        header: [0; 9],
+        header: [0; HEADER],
         have: 0,
         scan: scan,
         clean: 0,
@@ -50,7 +50,8 @@ fn header_whole(used: usize, report: Report, work: &mut [u8], out: &mut [u8]) ->
     ensures { λ r. ⌜ Does (headerWhole used report (now (work .entry))) r (now (work .exit)) (now (out .entry)) (now (out .exit)) ⌝ }
 {
     let header = report.header;
-    let refusal = lines::header_refusal(header, HEADER);
+    let have = report.have;
+    let refusal = lines::header_refusal(header, have);
     if refusal != 0 {
         let written = lines::refused_line(out, refusal);
         let state = ended(report);
@@ -74,7 +75,7 @@ fn header_whole(used: usize, report: Report, work: &mut [u8], out: &mut [u8]) ->
 
 // The state with more bytes of the header.
 fn header_held(report: Report, bytes: &[u8]) -> Report
-    requires { ⌜ length (now bytes) ≤ 9 - report .have ⌝ }
+    requires { ⌜ length (now bytes) ≤ 15 - report .have ⌝ }
     ensures { λ r. ⌜ r ≡ holding report (sets (report .header) (report .have) (now (bytes .entry))) (report .have + length (now (bytes .entry))) (report .scan) ⌝ }
 {
     let have = report.have;
@@ -93,14 +94,15 @@ fn header_held(report: Report, bytes: &[u8]) -> Report
 
 // Takes bytes of the header, no more than it lacks.
 fn header_took(report: Report, bytes: &[u8], work: &mut [u8], out: &mut [u8]) -> Fed
-    requires { ⌜ length (now bytes) ≤ 9 - report .have ⌝ }
+    requires { ⌜ length (now bytes) ≤ 15 - report .have ⌝ }
     requires { ⌜ 128 ≤ length (now out) ⌝ }
     ensures { λ r. ⌜ Does (headerTook report (now (bytes .entry)) (now (work .entry))) r (now (work .exit)) (now (out .entry)) (now (out .exit)) ⌝ }
 {
     let used = bytes.len();
     let held = header_held(report, bytes);
+    let header = held.header;
     let have = held.have;
-    if have < HEADER {
+    if have < lines::header_size(header, have) {
         return Fed {
             state: held,
             used: used,
@@ -122,8 +124,10 @@ fn header_step(report: Report, input: &[u8], work: &mut [u8], out: &mut [u8]) ->
     requires { ⌜ 128 ≤ length (now out) ⌝ }
     ensures { λ r. ⌜ Does (headerStep report (now (input .entry)) (now (work .entry))) r (now (work .exit)) (now (out .entry)) (now (out .exit)) ⌝ }
 {
+    let header = report.header;
     let have = report.have;
-    let lacks = less(HEADER, have);
+    let size = lines::header_size(header, have);
+    let lacks = less(size, have);
     let count = least(lacks, input.len());
     header_took(report, &input[0..count], work, out)
 }
@@ -142,7 +146,7 @@ fn stripe_step(report: Report, input: &[u8], work: &mut [u8], out: &mut [u8]) ->
             written: 0,
         };
     }
-    let lacks = BLOCK - have % BLOCK;
+    let lacks = block_lacks(METHOD, have);
     let count = least(lacks, input.len());
     stripe_took(report, &input[0..count], work, out)
 }

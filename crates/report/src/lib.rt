@@ -7,25 +7,27 @@ pub use feeding::close;
 pub use feeding::feed;
 pub use feeding::new;
 pub use fills::fill;
+use format::METHOD;
+use lines::HEADER;
 use scan::Scan;
-use tag::BLOCK;
 use verdict::Scrubbed;
 use verdict::Verdict;
 ghost use mathlib.Core.Path.{_≡_};
 ghost use mathlib.Core.Bool.{true};
-ghost use Prim.Native.Nat.{_+_, _≤_};
+ghost use Prim.Native.Nat.{_+_, _*_, _/_, _≤_};
 ghost use lib.ListN.{length};
 ghost use Rattle.verdict.specs.Verdicts.{verdictNumbers};
+ghost use Rattle.format.specs.Methods.{formatOf};
 ghost use Rattle.scan.specs.Scans.{finishNumbers};
 ghost use Rattle.report.specs.Reports.{counted};
-ghost use Rattle.report.specs.Feeding.{Does, holding, entering, ended, stripeFit, stripeJudged, stripeWhole, stripeTook, blockLacks};
+ghost use Rattle.report.specs.Feeding.{Does, holding, entering, ended, stripeFit, stripeJudged, stripeWhole, blockLacks, stripeTook};
 
 // Where a report stands between the calls, beside the work buffer.
 // stage: 0 in the header, 1 in the stripes, 2 behind the last stripe, 3 when the last line is written.
 // have: how many bytes of the header, or of the stripe, have come.
 pub struct Report {
     pub stage: u8,
-    pub header: [u8; 9],
+    pub header: [u8; HEADER],
     pub have: usize,
     pub scan: Scan,
     pub clean: u64,
@@ -41,7 +43,7 @@ pub struct Fed {
 }
 
 // The state at the start of a stage or of a stripe.
-fn entering(stage: u8, header: [u8; 9], scan: Scan, clean: u64, bad: u64, torn: u64) -> Report
+fn entering(stage: u8, header: [u8; HEADER], scan: Scan, clean: u64, bad: u64, torn: u64) -> Report
     ensures { λ r. ⌜ r ≡ entering stage header scan (record { clean = clean; bad = bad; torn = torn }) ⌝ }
 {
     Report {
@@ -171,6 +173,21 @@ fn stripe_whole(used: usize, report: Report, work: &mut [u8], out: &mut [u8]) ->
     }
 }
 
+// How many bytes a stripe of so many members has.
+fn stripe_length(method: u8, members: usize) -> usize
+    requires { ⌜ members ≤ 16 ⌝ }
+    ensures { λ r. ⌜ r ≡ formatOf method .blockLength * members ⌝ }
+{
+    format::block_length(method) * members
+}
+
+// How many whole blocks some bytes are.
+fn whole_blocks(method: u8, have: usize) -> usize
+    ensures { λ r. ⌜ r ≡ have / formatOf method .blockLength ⌝ }
+{
+    have / format::block_length(method)
+}
+
 // Bytes of one block of the stripe.
 fn stripe_took(report: Report, bytes: &[u8], work: &mut [u8], out: &mut [u8]) -> Fed
     requires { ⌜ stripeFit report ≡ true ⌝ }
@@ -183,12 +200,12 @@ fn stripe_took(report: Report, bytes: &[u8], work: &mut [u8], out: &mut [u8]) ->
     let members = array.members;
     let have = report.have;
     let count = bytes.len();
-    let member = have / BLOCK;
+    let member = whole_blocks(METHOD, have);
     let taken = scan::piece(scan, member, bytes, work);
     let next = taken.state;
     let now = have + count;
     let held = stripe_held(report, now, next);
-    if now < BLOCK * members {
+    if now < stripe_length(METHOD, members) {
         return Fed {
             state: held,
             used: count,

@@ -1,9 +1,12 @@
 // The stripes of an image that is fed: which states are fit to go on with.
 use crate::Report;
-use tag::BLOCK;
+use crate::stripe_length;
+use format::METHOD;
 ghost use mathlib.Core.Path.{_≡_};
 ghost use mathlib.Core.Bool.{_&&_};
+ghost use Prim.Native.Nat.{_-_, _%_};
 ghost use lib.Dec.{leb};
+ghost use Rattle.format.specs.Methods.{formatOf};
 ghost use Rattle.report.specs.Feeding.{stripeFit};
 
 // No count is above the number of the stripes before.
@@ -34,8 +37,16 @@ pub fn stripe_fit(report: Report) -> bool
     if layout::stripe_refusal(array, stripe) != 0 {
         return false;
     }
-    if have >= BLOCK * members {
+    if have >= stripe_length(METHOD, members) {
         return false;
     }
     few(stripe, clean, bad, torn)
+}
+
+// How many bytes a block lacks, when so many bytes of the stripe have come.
+pub fn block_lacks(method: u8, have: usize) -> usize
+    ensures { λ r. ⌜ r ≡ formatOf method .blockLength - have % formatOf method .blockLength ⌝ }
+{
+    let block = format::block_length(method);
+    block - have % block
 }

@@ -14,16 +14,15 @@ use lib.Dec.{leb, eqb, lit<}
 use lib.ListN.{length, getD, set, replicate}
 use lib.Seq.{getD-set-same, getD-set-other, set-out}
 use Rattle.crc.specs.Crc.{bitsOf, Bytes, Within}
-use Rattle.crc.specs.Guard.{guard}
+use Rattle.format.specs.Formats.{guard, mostTags}
 use Rattle.layout.specs.Answers.{answer}
 use Rattle.layout.specs.Ranges.{Sound}
 use Rattle.layout.specs.declared.Array.{Array}
 use Rattle.layout.proofs.Answers.{refuse-none}
-use Rattle.tag.specs.Blocks.{dataLength}
+use Rattle.tag.specs.Blocks.{formatAt}
 use Rattle.tag.proofs.Numbers.{bytes-joined}
 use Rattle.verdict.specs.Verdicts.{quickNumbers}
 use Rattle.stripe.specs.Tables.{all}
-use Rattle.stripe.specs.Formats.{t10, whole}
 use Rattle.stripe.specs.Verdicts.{verdict, scrubBlocks, storedGuard}
 use Rattle.stripe.specs.Stripes.{Whole}
 use Rattle.stripe.proofs.Quick.{fits-where-zero, differs-within}
@@ -48,12 +47,12 @@ module _ (a : Array) (stripe : ℕ) where
   kept-bytes false history member bytes h hb = h
 
   history-bytes : (calls : List Call) (history : List (List ℕ)) → ByteCalls calls → ((i : ℕ) → Bytes (getD history i []))
-      → (i : ℕ) → Bytes (getD (foldl (kept (whole t10) (a .members) (scrubBlocks a stripe)) history calls) i [])
+      → (i : ℕ) → Bytes (getD (foldl (kept (formatAt a .blockLength) (a .members) (scrubBlocks a stripe)) history calls) i [])
   unfolding kept
   history-bytes [] history c h = h
   history-bytes (piece member bytes ∷ calls) history c h =
-      history-bytes calls (kept (whole t10) (a .members) (scrubBlocks a stripe) history (piece member bytes)) (c .1)
-      (kept-bytes (eqb (pieceNumber (whole t10) (a .members) (scrubBlocks a stripe) history member bytes) 0) history member bytes h (c .0))
+      history-bytes calls (kept (formatAt a .blockLength) (a .members) (scrubBlocks a stripe) history (piece member bytes)) (c .1)
+      (kept-bytes (eqb (pieceNumber (formatAt a .blockLength) (a .members) (scrubBlocks a stripe) history member bytes) 0) history member bytes h (c .0))
   history-bytes (finish ∷ calls) history c h = history-bytes calls history c h
 
   none-taken : (n i : ℕ) → getD (begun n) i [] ≡ []
@@ -63,37 +62,37 @@ module _ (a : Array) (stripe : ℕ) where
 
   -- a finish that the history accepts: its blocks are whole
   pub whole-history : Sound a → (calls : List Call) → ByteCalls calls
-      → finishNumber (whole t10) (a .members) (scrubBlocks a stripe) (historyOf a stripe calls) ≡ 0 → Whole a (historyOf a stripe calls)
+      → finishNumber (formatAt a .blockLength) (a .members) (scrubBlocks a stripe) (historyOf a stripe calls) ≡ 0 → Whole a (historyOf a stripe calls)
   whole-history sound calls bytes e =
       let history = historyOf a stripe calls in
-      let follows = held-follows-history t10 (a .members) (verdict a stripe) 16 (sound .many) calls in
-      let every = refuse-none (all (map (λ taken. leb (whole t10) (length taken)) history)) 7 0 e .0 in
+      let follows = held-follows-history (formatAt a) (a .members) (verdict a stripe) 16 mostTags (sound .many) (let F = formatAt a in omega arith) calls in
+      let every = refuse-none (all (map (λ taken. leb (formatAt a .blockLength) (length taken)) history)) 7 0 e .0 in
       record {
         all-there = follows .members;
-        long = λ i h. le-antisymm (follows .fits i) (all-whole (whole t10) history every i h);
+        long = λ i h. le-antisymm (follows .fits i) (all-whole (formatAt a .blockLength) history every i h);
         bytes = history-bytes calls (begun (a .members)) bytes (λ i. rw (none-taken (a .members) i) (λ k. lit< tt));
       }
 
   module _ (sound : Sound a) (calls : List Call) (bytes : ByteCalls calls)
-      (accepted : finishNumber (whole t10) (a .members) (scrubBlocks a stripe) (historyOf a stripe calls) ≡ 0)
+      (accepted : finishNumber (formatAt a .blockLength) (a .members) (scrubBlocks a stripe) (historyOf a stripe calls) ≡ 0)
       (none-bad : getD (scrubBlocks a stripe (historyOf a stripe calls)) 0 0 ≢ 1) where
-    pub quick-fits-beside : together (historyOf a stripe calls) ≡ replicate dataLength 0
-        → quickNumbers (map storedGuard (historyOf a stripe calls)) ≡ 1 ∷ 0 ∷ 0 ∷ 0 ∷ []
+    pub quick-fits-beside : together a (historyOf a stripe calls) ≡ replicate (formatAt a .dataLength) 0
+        → quickNumbers (map (storedGuard (formatAt a)) (historyOf a stripe calls)) ≡ 1 ∷ 0 ∷ 0 ∷ 0 ∷ []
     quick-fits-beside = fits-where-zero a stripe (historyOf a stripe calls) sound (whole-history sound calls bytes accepted) none-bad
 
-    pub quick-differs-beside : together (historyOf a stripe calls) ≢ replicate dataLength 0
-        → Within 16 (bitsOf (together (historyOf a stripe calls))) (bitsOf (replicate dataLength 0))
-        → (guard (together (historyOf a stripe calls)) ≢ 0)
-        × (quickNumbers (map storedGuard (historyOf a stripe calls)) ≡ 1 ∷ 0 ∷ 1 ∷ guard (together (historyOf a stripe calls)) ∷ [])
+    pub quick-differs-beside : together a (historyOf a stripe calls) ≢ replicate (formatAt a .dataLength) 0
+        → Within 16 (bitsOf (together a (historyOf a stripe calls))) (bitsOf (replicate (formatAt a .dataLength) 0))
+        → (guard (formatAt a) (together a (historyOf a stripe calls)) ≢ 0)
+        × (quickNumbers (map (storedGuard (formatAt a)) (historyOf a stripe calls)) ≡ 1 ∷ 0 ∷ 1 ∷ guard (formatAt a) (together a (historyOf a stripe calls)) ∷ [])
     quick-differs-beside = differs-within a stripe (historyOf a stripe calls) sound (whole-history sound calls bytes accepted) none-bad
 
   -- ---- at a finish among the calls, from the answers that they got
 
   answer-at : (history : List (List ℕ)) (before later : List Call)
-      → getD (answers (whole t10) (a .members) (scrubBlocks a stripe) history (before ++ (finish ∷ later))) (length before) []
-      ≡ answerTo (whole t10) (a .members) (scrubBlocks a stripe) (foldl (kept (whole t10) (a .members) (scrubBlocks a stripe)) history before) finish
+      → getD (answers (formatAt a .blockLength) (a .members) (scrubBlocks a stripe) history (before ++ (finish ∷ later))) (length before) []
+      ≡ answerTo (formatAt a .blockLength) (a .members) (scrubBlocks a stripe) (foldl (kept (formatAt a .blockLength) (a .members) (scrubBlocks a stripe)) history before) finish
   answer-at history [] later = refl
-  answer-at history (c ∷ before) later = answer-at (kept (whole t10) (a .members) (scrubBlocks a stripe) history c) before later
+  answer-at history (c ∷ before) later = answer-at (kept (formatAt a .blockLength) (a .members) (scrubBlocks a stripe) history c) before later
 
   bytes-before : (before later : List Call) → ByteCalls (before ++ later) → ByteCalls before
   bytes-before [] later c = tt
@@ -107,17 +106,17 @@ module _ (a : Array) (stripe : ℕ) where
   done-by (suc number) v kind place count e = absurd (omega (arith, ap (λ (l : List ℕ). getD l 0 0) e))
 
   module _ (sound : Sound a) (calls : List Call) (xs : List (List ℕ))
-      (right : xs ≡ answers (whole t10) (a .members) (scrubBlocks a stripe) (begun (a .members)) calls) where
+      (right : xs ≡ answers (formatAt a .blockLength) (a .members) (scrubBlocks a stripe) (begun (a .members)) calls) where
     done-with : (before : List Call) (f : FoundNoneBad calls before xs)
-        → (finishNumber (whole t10) (a .members) (scrubBlocks a stripe) (historyOf a stripe before) ≡ 0)
+        → (finishNumber (formatAt a .blockLength) (a .members) (scrubBlocks a stripe) (historyOf a stripe before) ≡ 0)
         × (getD (scrubBlocks a stripe (historyOf a stripe before)) 0 0 ≡ f .kind)
     unfolding answerTo
     done-with before f =
-        done-by (finishNumber (whole t10) (a .members) (scrubBlocks a stripe) (historyOf a stripe before)) (scrubBlocks a stripe (historyOf a stripe before))
+        done-by (finishNumber (formatAt a .blockLength) (a .members) (scrubBlocks a stripe) (historyOf a stripe before)) (scrubBlocks a stripe (historyOf a stripe before))
         (f .kind) (f .place) (f .count)
         (sym (answer-at (begun (a .members)) before (f .later))
         ∙ sym (ap (λ (l : List (List ℕ)). getD l (length before) [])
-        (right ∙ ap (answers (whole t10) (a .members) (scrubBlocks a stripe) (begun (a .members))) (f .there))) ∙ f .answer-is)
+        (right ∙ ap (answers (formatAt a .blockLength) (a .members) (scrubBlocks a stripe) (begun (a .members))) (f .there))) ∙ f .answer-is)
 
     pub answers-cut-anywhere : CutAnywhere a stripe calls xs
     answers-cut-anywhere =

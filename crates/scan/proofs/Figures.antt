@@ -6,7 +6,8 @@ use Prim.Native.Nat.{ℕ}
 use lib.ListN.{replicate}
 use Rattle.xor.specs.Xors.{xors}
 use Rattle.crc.specs.Guard.{run}
-use Rattle.layout.specs.Arrays.{arrayRefusal, stripeRefusal}
+use Rattle.format.specs.Methods.{formatOf}
+use Rattle.layout.specs.Arrays.{arrayOf, arrayRefusal, stripeRefusal}
 use Rattle.layout.specs.declared.Array.{Array}
 use Rattle.scan.specs.declared.Scan.{Scan}
 use Rattle.scan.specs.Scans.{
@@ -30,7 +31,7 @@ use Rattle.scan.specs.Scans.{
 
 -- two stripes of three members
 abbrev three : Array
-three = record { members = 3; stripes = 2; volume = 7 }
+three = arrayOf 3 2 7
 
 abbrev zeros : List ℕ
 zeros = 0 ∷ 0 ∷ 0 ∷ 0 ∷ 0 ∷ 0 ∷ 0 ∷ 0 ∷ 0 ∷ 0 ∷ 0 ∷ 0 ∷ 0 ∷ 0 ∷ 0 ∷ 0 ∷ []
@@ -50,21 +51,21 @@ standing first second third fourth =
 
 -- a refused start gives zeros throughout and changes no byte: stripe 2 of two; a buffer of another length
 abbrev nothing : Scan
-nothing = record { array = record { members = 0; stripes = 0; volume = 0 }; stripe = 0; at = zeros; register = zeros; tag = replicate 128 0 }
+nothing = record { array = arrayOf 0 0 0; stripe = 0; at = zeros; register = zeros; tag = replicate 128 0 }
 
 pub refused-start : (startState three 2 512 ≡ nothing) × (startState three 1 2 ≡ nothing) × (startWork three 1 (8 ∷ 9 ∷ []) ≡ 8 ∷ 9 ∷ [])
-unfolding startState startWork startRefusal emptyScan stripeRefusal arrayRefusal
+unfolding formatOf startState startWork startRefusal emptyScan stripeRefusal arrayRefusal
 refused-start = (refl, refl, refl)
 
 -- 3 goes before 6
 pub start-order : (startRefusal three 2 0 ≡ 3) × (startRefusal three 1 511 ≡ 6) × (startRefusal three 1 513 ≡ 6) × (startRefusal three 1 512 ≡ 0)
-unfolding startRefusal stripeRefusal arrayRefusal
+unfolding formatOf startRefusal stripeRefusal arrayRefusal
 start-order = (refl, refl, refl, refl)
 
 -- ---- fit: a position of 520 is fit and 521 is not, and what stands past the members does not matter
 
 pub fit-positions : (fit (standing 520 520 520 521) ≡ true) × (fit (standing 0 0 521 0) ≡ false) × (fit (standing 521 0 0 0) ≡ false)
-unfolding fit stripeRefusal arrayRefusal
+unfolding formatOf fit stripeRefusal arrayRefusal
 fit-positions = (refl, refl, refl)
 
 -- ---- piece: 4 goes before 5, 5 before 6 and 7, 6 before 7
@@ -72,17 +73,17 @@ fit-positions = (refl, refl, refl)
 pub piece-order : (pieceRefusal (standing 521 0 0 0) 3 521 511 ≡ 4) × (pieceRefusal (standing 0 0 0 0) 3 521 511 ≡ 5)
     × (pieceRefusal (standing 0 0 0 0) 3 521 512 ≡ 5) × (pieceRefusal (standing 0 0 0 0) 2 521 511 ≡ 6)
     × (pieceRefusal (standing 0 0 0 0) 2 521 512 ≡ 7) × (pieceRefusal (standing 0 0 0 0) 2 520 512 ≡ 0)
-unfolding pieceRefusal fit stripeRefusal arrayRefusal
+unfolding formatOf pieceRefusal fit stripeRefusal arrayRefusal
 piece-order = (refl, refl, refl, refl, refl, refl)
 
 -- at the end of its block a member takes no byte more, and an empty piece
 pub piece-at-the-end : (pieceRefusal (standing 0 520 0 0) 1 1 512 ≡ 7) × (pieceRefusal (standing 0 520 0 0) 1 0 512 ≡ 0)
-unfolding pieceRefusal fit stripeRefusal arrayRefusal
+unfolding formatOf pieceRefusal fit stripeRefusal arrayRefusal
 piece-at-the-end = (refl, refl)
 
 -- a refused piece changes nothing
 pub refused-piece : (pieceState (standing 0 0 0 0) 3 (9 ∷ []) 512 ≡ standing 0 0 0 0) × (pieceWork (standing 0 0 0 0) 0 (9 ∷ []) (8 ∷ 9 ∷ []) ≡ 8 ∷ 9 ∷ [])
-unfolding pieceState pieceWork pieceRefusal fit stripeRefusal arrayRefusal
+unfolding formatOf pieceState pieceWork pieceRefusal fit stripeRefusal arrayRefusal
 refused-piece = (refl, refl)
 
 -- on a state that no start gives a piece goes on from what it finds, and nothing else moves: for member 1, on register 1234h, a first byte
@@ -101,7 +102,7 @@ pub piece-goes-on : (pieceState (foundState 0 0x1234 11) 1 (1 ∷ []) 512 ≡ fo
     × (pieceWork (foundState 0 0x1234 11) 1 (1 ∷ []) (9 ∷ replicate 511 5) ≡ 8 ∷ replicate 511 5)
     × (pieceState (foundState 511 0x1234 11) 1 (1 ∷ 12 ∷ []) 512 ≡ foundState 513 (run 0x1234 (1 ∷ [])) 12)
     × (pieceWork (foundState 511 0x1234 11) 1 (1 ∷ 12 ∷ []) (replicate 511 5 ++ (9 ∷ [])) ≡ replicate 511 5 ++ (8 ∷ []))
-unfolding pieceState pieceWork pieceRefusal fit stripeRefusal arrayRefusal advanced positions registers tags buffer dataOfPiece tagOfPiece xors
+unfolding formatOf pieceState pieceWork pieceRefusal fit stripeRefusal arrayRefusal advanced positions registers tags buffer dataOfPiece tagOfPiece xors
 piece-goes-on = (refl, refl, refl, refl)
 
 -- ---- finish: 4 goes before 6, 6 before 8; what stands past the members does not matter
@@ -109,5 +110,5 @@ piece-goes-on = (refl, refl, refl, refl)
 pub finish-order : (finishRefusal (standing 521 0 0 0) 511 ≡ 4) × (finishRefusal (standing 519 520 520 0) 511 ≡ 6)
     × (finishRefusal (standing 520 520 519 520) 512 ≡ 8) × (finishRefusal (standing 520 520 520 0) 512 ≡ 0)
     × (finishRefusal (standing 520 520 520 521) 512 ≡ 0)
-unfolding finishRefusal fit stripeRefusal arrayRefusal
+unfolding formatOf finishRefusal fit stripeRefusal arrayRefusal
 finish-order = (refl, refl, refl, refl, refl)

@@ -7,12 +7,14 @@ use mathlib.Core.List.{List, [], _∷_, map}
 use Prim.Native.Nat.{ℕ, zero, suc, _*_, _≤_, _<_}
 use native.Mathlib.Nat.{le-of-suc-le-suc, not-suc-le-zero}
 use native.Mathlib.Omega.{arith}
-use lib.Dec.{leb, eqb}
-use borrow.Author.Tests.{leb-true, leb-false, le-leb, eq-eqb, ne-eqb}
+use lib.Dec.{leb, ltb, eqb}
+use borrow.Author.Tests.{leb-true, leb-false, le-leb, lt-ltb, eq-eqb, ne-eqb}
 use lib.ListN.{length, getD, take, drop, length-take, length-drop}
 use lib.Seq.{getD-take, getD-drop, ext-getD}
 use Rattle.stripe.specs.Tables.{table, all, span}
-use Rattle.stripe.specs.Formats.{Format, whole, tagIn, registerOf, summaryOf}
+use Rattle.format.specs.Formats.{Format, guard}
+use Rattle.tag.specs.Blocks.{dataOf, tagOf}
+use Rattle.stripe.specs.Formats.{registerOf, summaryOf}
 use Rattle.scan.specs.Scans.{heldSummary}
 use Rattle.scan.specs.Holding.{Held, Follows}
 use Rattle.scan.proofs.Joins.{table-map, map-map}
@@ -54,14 +56,14 @@ module _ (block : ℕ) where
 -- ---- what is held, at a finish
 
 module _ (F : Format) (n : ℕ) (h : Held F) (history : List (List ℕ)) (t : Follows F n h history) where
-  pub flags-are : map (λ p. eqb p (whole F)) (take n (h .at)) ≡ map (λ taken. leb (whole F) (length taken)) history
-  flags-are = rw (t .at-is) (ends-alike (whole F) history (t .fits))
+  pub flags-are : map (λ p. eqb p (F .blockLength)) (take n (h .at)) ≡ map (λ taken. leb (F .blockLength) (length taken)) history
+  flags-are = rw (t .at-is) (ends-alike (F .blockLength) history (t .fits))
 
-  pub positions-fit : all (map (λ p. leb p (whole F)) (take n (h .at))) ≡ true
-  positions-fit = rw (t .at-is) (none-past (whole F) history (t .fits))
+  pub positions-fit : all (map (λ p. leb p (F .blockLength)) (take n (h .at))) ≡ true
+  positions-fit = rw (t .at-is) (none-past (F .blockLength) history (t .fits))
 
-  tag-held : (i : ℕ) → i < n → length (getD history i []) ≡ whole F → span (F .tagLength * i) (F .tagLength) (h .tag) ≡ tagIn F (getD history i [])
-  unfolding span tagIn
+  tag-held : (i : ℕ) → i < n → length (getD history i []) ≡ F .blockLength → span (F .tagLength * i) (F .tagLength) (h .tag) ≡ tagOf F (getD history i [])
+  unfolding span tagOf
   tag-held i hi e =
       ext-getD 0 (take (F .tagLength) (drop (F .tagLength * i) (h .tag))) (drop (F .dataLength) (getD history i []))
       (long ∙ sym (length-drop (F .dataLength) (getD history i []) ∙ omega arith)) (λ j hj. at j (rw long at hj))
@@ -72,18 +74,18 @@ module _ (F : Format) (n : ℕ) (h : Held F) (history : List (List ℕ)) (t : Fo
       at : (j : ℕ) → j < F .tagLength → getD (take (F .tagLength) (drop (F .tagLength * i) (h .tag))) j 0 ≡ getD (drop (F .dataLength) (getD history i [])) j 0
       at j hj = rw (getD-take, getD-drop (F .tagLength * i)) (t .tag-is i hi j hj)
 
-  pub summary-held : all (map (λ taken. leb (whole F) (length taken)) history) ≡ true
+  pub summary-held : all (map (λ taken. leb (F .blockLength) (length taken)) history) ≡ true
       → heldSummary F n (h .register) (h .tag) (h .work) ≡ summaryOf F history
-  unfolding heldSummary
+  unfolding heldSummary guard
   summary-held e = cc (guards, tags, t .work-is)
     where
       guards : map (F .guardOf) (take n (h .register)) ≡ map (λ b. F .guardOf (registerOf F b)) history
       guards = rw (t .register-is) (map-map (F .guardOf) (registerOf F) history)
 
-      full : (i : ℕ) → i < length history → length (getD history i []) ≡ whole F
-      full i hi = omega (arith, t .fits i, all-whole (whole F) history e i hi)
+      full : (i : ℕ) → i < length history → length (getD history i []) ≡ F .blockLength
+      full i hi = omega (arith, t .fits i, all-whole (F .blockLength) history e i hi)
 
-      tags : table n (λ m. span (F .tagLength * m) (F .tagLength) (h .tag)) ≡ map (tagIn F) history
+      tags : table n (λ m. span (F .tagLength * m) (F .tagLength) (h .tag)) ≡ map (tagOf F) history
       tags =
           ap (λ (k : ℕ). table k (λ m. span (F .tagLength * m) (F .tagLength) (h .tag))) (sym (t .members))
-          ∙ table-map (tagIn F) (λ m. span (F .tagLength * m) (F .tagLength) (h .tag)) history [] (λ i hi. tag-held i (rw (t .members) at hi) (full i hi))
+          ∙ table-map (tagOf F) (λ m. span (F .tagLength * m) (F .tagLength) (h .tag)) history [] (λ i hi. tag-held i (rw (t .members) at hi) (full i hi))

@@ -14,17 +14,16 @@ use lib.Dec.{leb, eqb}
 use lib.ListN.{length, getD, take, drop, replicate, length-take, drop-of-length-le, List·getD-eq-default}
 use lib.Seq.{drop-cons, getD-take}
 use Rattle.layout.specs.Answers.{refuse, after}
-use Rattle.layout.specs.Arrays.{stripeRefusal}
+use Rattle.layout.specs.Arrays.{noArray, stripeRefusal}
 use Rattle.layout.specs.declared.Array.{Array}
 use Rattle.layout.proofs.Answers.{refuse-none}
 use Rattle.layout.proofs.Ranges.{stripe-sound}
 use Rattle.stripe.specs.Tables.{all}
-use Rattle.stripe.specs.Formats.{t10}
+use Rattle.tag.specs.Blocks.{formatAt}
 use Rattle.scan.specs.declared.Scan.{Scan}
 use Rattle.scan.specs.Scans.{
   startRefusal,
   emptyScan,
-  noArray,
   startState,
   startWork,
   fit,
@@ -81,12 +80,12 @@ module _ {A : Type 0} (number : ℕ) (x y : A) where
 -- ---- start
 
 module _ (a : Array) (stripe : ℕ) (w : List ℕ) where
-  started-long : startRefusal a stripe (length w) ≡ 0 → length w ≡ 512
+  started-long : startRefusal a stripe (length w) ≡ 0 → length w ≡ (formatAt a .dataLength)
   unfolding startRefusal
   started-long = go (stripeRefusal a stripe)
     where
-      go : (earlier : ℕ) → after earlier (refuse (not (eqb (length w) 512)) 6 0) ≡ 0 → length w ≡ 512
-      go zero e = eqb-true (length w) 512 (refuse-none (eqb (length w) 512) 5 0 e .0)
+      go : (earlier : ℕ) → after earlier (refuse (not (eqb (length w) (formatAt a .dataLength))) 6 0) ≡ 0 → length w ≡ (formatAt a .dataLength)
+      go zero e = eqb-true (length w) (formatAt a .dataLength) (refuse-none (eqb (length w) (formatAt a .dataLength)) 5 0 e .0)
       go (suc k) e = absurd (omega arith)
 
   pub started : startRefusal a stripe (length w) ≡ 0 → (s : Scan) (w′ : List ℕ) → s ≡ emptyScan a stripe → w′ ≡ replicate (length w) 0
@@ -95,7 +94,7 @@ module _ (a : Array) (stripe : ℕ) (w : List ℕ) where
   started none s w′ e f = (
     e ∙ sym (when-done (startRefusal a stripe (length w)) (emptyScan a stripe) (emptyScan noArray 0) none),
     f ∙ ap (λ (n : ℕ). replicate n 0) (started-long none)
-        ∙ sym (when-done (startRefusal a stripe (length w)) (replicate (t10 .dataLength) 0) w none),
+        ∙ sym (when-done (startRefusal a stripe (length w)) (replicate (formatAt a .dataLength) 0) w none),
   )
 
   pub start-refused : startRefusal a stripe (length w) ≢ 0 → (s : Scan) → s ≡ emptyScan noArray 0
@@ -103,7 +102,7 @@ module _ (a : Array) (stripe : ℕ) (w : List ℕ) where
   unfolding startState startWork
   start-refused some s e = (
     e ∙ sym (when-refused (startRefusal a stripe (length w)) (emptyScan a stripe) (emptyScan noArray 0) some),
-    sym (when-refused (startRefusal a stripe (length w)) (replicate (t10 .dataLength) 0) w some),
+    sym (when-refused (startRefusal a stripe (length w)) (replicate (formatAt a .dataLength) 0) w some),
   )
 
 -- ---- a fit state
@@ -113,14 +112,14 @@ module _ (s : Scan) where
   unfolding fit
   numbers-unfit h = rw (ne-eqb (stripeRefusal (s .array) (s .stripe)) 0 h)
 
-  pub numbers-fit : stripeRefusal (s .array) (s .stripe) ≡ 0 → fit s ≡ nonePast (s .array .members) (s .at)
+  pub numbers-fit : stripeRefusal (s .array) (s .stripe) ≡ 0 → fit s ≡ nonePast (formatAt (s .array)) (s .array .members) (s .at)
   unfolding fit
   numbers-fit e = rw e
 
   pub fit-state : fit s ≡ true → FitState s
   unfolding fit
   fit-state e =
-      let h = both (eqb (stripeRefusal (s .array) (s .stripe)) 0) (nonePast (s .array .members) (s .at)) e in
+      let h = both (eqb (stripeRefusal (s .array) (s .stripe)) 0) (nonePast (formatAt (s .array)) (s .array .members) (s .at)) e in
       let sound = eqb-true (stripeRefusal (s .array) (s .stripe)) 0 (h .0) in
       record {
         numbers = sound;
@@ -128,20 +127,20 @@ module _ (s : Scan) where
         near = λ i k. near i k (decLt i (length (s .at))) (h .1);
       }
     where
-      near : (i : ℕ) → i < s .array .members → Dec (i < length (s .at)) → nonePast (s .array .members) (s .at) ≡ true → getD (s .at) i 0 ≤ 520
-      near i k (yes l) e = leb-true (getD (s .at) i 0) 520 (all-first (λ p. leb p 520) (s .at) (s .array .members) e i k l)
+      near : (i : ℕ) → i < s .array .members → Dec (i < length (s .at)) → nonePast (formatAt (s .array)) (s .array .members) (s .at) ≡ true → getD (s .at) i 0 ≤ (formatAt (s .array) .blockLength)
+      near i k (yes l) e = leb-true (getD (s .at) i 0) (formatAt (s .array) .blockLength) (all-first (λ p. leb p (formatAt (s .array) .blockLength)) (s .at) (s .array .members) e i k l)
       near i k (no l) e = rw (List·getD-eq-default (s .at) 0 {n = i} (omega arith)) zero-le
 
 -- ---- piece
 
 module _ (s : Scan) (member : ℕ) (bytes w : List ℕ) where
   pub taken-in : pieceRefusal s member (length bytes) (length w) ≡ 0 → (s′ : Scan) (w′ : List ℕ)
-      → s′ ≡ advanced s member bytes → w′ ≡ buffer t10 (s .at) w member bytes
+      → s′ ≡ advanced s member bytes → w′ ≡ buffer (formatAt (s .array)) (s .at) w member bytes
       → (s′ ≡ pieceState s member bytes (length w)) × (w′ ≡ pieceWork s member bytes w)
   unfolding pieceState pieceWork
   taken-in none s′ w′ e f = (
     e ∙ sym (when-done (pieceRefusal s member (length bytes) (length w)) (advanced s member bytes) s none),
-    f ∙ sym (when-done (pieceRefusal s member (length bytes) (length w)) (buffer t10 (s .at) w member bytes) w none),
+    f ∙ sym (when-done (pieceRefusal s member (length bytes) (length w)) (buffer (formatAt (s .array)) (s .at) w member bytes) w none),
   )
 
   pub piece-refused : pieceRefusal s member (length bytes) (length w) ≢ 0
@@ -149,7 +148,7 @@ module _ (s : Scan) (member : ℕ) (bytes w : List ℕ) where
   unfolding pieceState pieceWork
   piece-refused some = (
     sym (when-refused (pieceRefusal s member (length bytes) (length w)) (advanced s member bytes) s some),
-    sym (when-refused (pieceRefusal s member (length bytes) (length w)) (buffer t10 (s .at) w member bytes) w some),
+    sym (when-refused (pieceRefusal s member (length bytes) (length w)) (buffer (formatAt (s .array)) (s .at) w member bytes) w some),
   )
 
 -- ---- finish
@@ -157,4 +156,4 @@ module _ (s : Scan) (member : ℕ) (bytes w : List ℕ) where
 pub finish-fit : (s : Scan) (k : ℕ) → finishRefusal s k ≡ 0 → FitState s
 unfolding finishRefusal
 finish-fit s k e =
-    fit-state s (refuse-none (fit s) 3 (refuse (not (eqb k 512)) 6 (refuse (not (allWhole (s .array .members) (s .at))) 8 0)) e .0)
+    fit-state s (refuse-none (fit s) 3 (refuse (not (eqb k (formatAt (s .array) .dataLength))) 6 (refuse (not (allWhole (formatAt (s .array)) (s .array .members) (s .at))) 8 0)) e .0)

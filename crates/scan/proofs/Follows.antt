@@ -3,14 +3,16 @@
 use mathlib.Core.Path.{_≡_, refl, sym, ap, _∙_}
 use mathlib.Core.List.{List, [], _∷_, map}
 use Prim.Native.Nat.{ℕ, zero, suc, _+_, _*_, _≤_, _<_, zero-le}
-use native.Mathlib.Nat.{mul-le-mul-left}
+use native.Mathlib.Nat.{mul-le-mul-left, le-trans}
 use native.Mathlib.Decide.{decLt}
 use native.Mathlib.Omega.{arith}
 use lib.ListN.{length, getD, take, replicate, length-replicate, getD-replicate, List·getD-eq-default}
 use lib.Seq.{take-nil, drop-nil}
 use Rattle.xor.specs.Xors.{addAll}
 use Rattle.xor.proofs.Lists.{xors-nil}
-use Rattle.stripe.specs.Formats.{Format, dataIn, tagIn, registerOf}
+use Rattle.format.specs.Formats.{Format}
+use Rattle.tag.specs.Blocks.{dataOf, tagOf}
+use Rattle.stripe.specs.Formats.{registerOf}
 use Rattle.scan.specs.History.{begun}
 use Rattle.scan.specs.Holding.{Follows}
 use Rattle.scan.specs.Machines.{fresh}
@@ -36,23 +38,23 @@ unfolding addAll
 addAll-none a zero = refl
 addAll-none a (suc n) = ap (λ (l : List ℕ). addAll l (replicate n [])) (xors-nil a) ∙ addAll-none a n
 
-pub fresh-follows : (F : Format) (size n : ℕ) → n ≤ size → Follows F n (fresh F size) (begun n)
-unfolding dataIn tagIn
-fresh-follows F size n h =
+pub fresh-follows : (F : Format) (size room n : ℕ) → n ≤ size → F .tagLength * size ≤ room → Follows F n (fresh F size room) (begun n)
+unfolding dataOf tagOf
+fresh-follows F size room n h enough =
     record {
       members = length-replicate n [];
       at-long = rw (length-replicate {A = ℕ} size 0) h;
       register-long = rw (length-replicate size (F .start)) h;
-      tag-long = rw (length-replicate {A = ℕ} (F .tagLength * size) 0) (mul-le-mul-left (F .tagLength) h);
+      tag-long = rw (length-replicate {A = ℕ} room 0) (le-trans (mul-le-mul-left (F .tagLength) h) enough);
       fits = λ i. rw (getD-none {A = List ℕ} n i []) zero-le;
       at-is = take-replicate n size 0 h ∙ sym (map-replicate length n []);
       register-is = take-replicate n size (F .start) h ∙ ap (replicate n) (sym none-run) ∙ sym (map-replicate (registerOf F) n []);
-      tag-is = λ i hi j hj. rw (getD-none {A = List ℕ} n i [], drop-nil) (getD-none (F .tagLength * size) (F .tagLength * i + j) 0);
+      tag-is = λ i hi j hj. rw (getD-none {A = List ℕ} n i [], drop-nil) (getD-none room (F .tagLength * i + j) 0);
       work-is = sym (ap (addAll (replicate (F .dataLength) 0)) none-added ∙ addAll-none (replicate (F .dataLength) 0) n);
     }
   where
     none-run : registerOf F [] ≡ F .start
     none-run = ap (F .advance 0 (F .start)) (take-nil (F .dataLength)) ∙ F .advance-nil 0 (F .start)
 
-    none-added : map (dataIn F) (replicate n []) ≡ replicate n []
-    none-added = map-replicate (dataIn F) n [] ∙ ap (replicate n) (take-nil (F .dataLength))
+    none-added : map (dataOf F) (replicate n []) ≡ replicate n []
+    none-added = map-replicate (dataOf F) n [] ∙ ap (replicate n) (take-nil (F .dataLength))

@@ -9,7 +9,7 @@ use native.Mathlib.Omega.{arith}
 use lib.ListN.{length, getD, replicate, length-replicate, length-take, length-drop, take-append-drop, replicate-append-replicate, List·getD-eq-default}
 use Rattle.layout.specs.Answers.{answer}
 use Rattle.layout.specs.declared.Array.{Array}
-use Rattle.stripe.specs.Formats.{t10, whole}
+use Rattle.tag.specs.Blocks.{formatAt}
 use Rattle.stripe.specs.Verdicts.{scrubBlocks}
 use Rattle.scan.specs.declared.Scan.{Scan}
 use Rattle.scan.specs.History.{Call, finish, begun, answers}
@@ -88,13 +88,13 @@ module _ (block n : ℕ) (scrub : List (List ℕ) → List ℕ) where
 
 module _ (a : Array) (stripe : ℕ) (old : List ℕ) (accepted : startRefusal a stripe (length old) ≡ 0)
     {s last : Scan} {w left : List ℕ} (started : s ≡ startState a stripe (length old)) (cleared : w ≡ startWork a stripe old)
-    (blocks : List (List ℕ)) (many : length blocks ≡ a .members) (full : (i : ℕ) → i < a .members → length (getD blocks i []) ≡ whole t10)
+    (blocks : List (List ℕ)) (many : length blocks ≡ a .members) (full : (i : ℕ) → i < a .members → length (getD blocks i []) ≡ formatAt a .blockLength)
     {xs : List (List ℕ)} where
   pub one-piece-each : ScanRun s w (wholes blocks) xs last left → xs ≡ replicate (a .members) (0 ∷ []) ++ (answer 0 (scrubBlocks a stripe blocks) ∷ [])
   one-piece-each run =
-      run-answers-as-history a stripe old accepted started cleared run ∙ wholes-answered (whole t10) (a .members) (scrubBlocks a stripe) blocks many full
+      run-answers-as-history a stripe old accepted started cleared run ∙ wholes-answered (formatAt a .blockLength) (a .members) (scrubBlocks a stripe) blocks many full
 
   pub two-halves : (cut : ℕ → ℕ) → ScanRun s w (halves cut blocks) xs last left
       → xs ≡ replicate (a .members + a .members) (0 ∷ []) ++ (answer 0 (scrubBlocks a stripe blocks) ∷ [])
   two-halves cut run =
-      run-answers-as-history a stripe old accepted started cleared run ∙ halves-answered (whole t10) (a .members) (scrubBlocks a stripe) blocks many full cut
+      run-answers-as-history a stripe old accepted started cleared run ∙ halves-answered (formatAt a .blockLength) (a .members) (scrubBlocks a stripe) blocks many full cut

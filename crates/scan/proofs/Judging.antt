@@ -2,19 +2,26 @@
 -- Assumes nothing.
 use mathlib.Core.Path.{_≡_, refl, sym, ap, ap₂, _∙_}
 use mathlib.Core.Bool.{Bool, false, not}
-use mathlib.Core.List.{List, [], _∷_}
+use mathlib.Core.List.{List, [], _∷_, map}
 use mathlib.Core.Logic.{_≢_}
-use Prim.Native.Nat.{ℕ, zero, suc, _*_, _<_}
-use lib.ListN.{length, getD, take, drop, List·getD-map}
+use Prim.Native.Nat.{ℕ, zero, suc, _+_, _*_, _≤_, _<_}
+use native.Mathlib.Omega.{arith}
+use lib.ListN.{length, getD, take, drop, length-take}
 use lib.Seq.{getD-take}
+use Rattle.format.specs.Formats.{mostTags}
 use Rattle.layout.specs.Answers.{answer}
 use Rattle.layout.specs.Places.{ownerRefusal}
-use Rattle.tag.specs.Tags.{found, due, dueAt, fits}
+use Rattle.format.proofs.Sizes.{times-next}
+use Rattle.layout.proofs.Ranges.{place-sound}
+use Rattle.tag.specs.Tags.{found, tagWithin, due, dueAt, fits}
+use Rattle.tag.proofs.Within.{tag-inside}
+use Rattle.scan.proofs.Joins.{getD-map-in}
 use Rattle.tag.specs.declared.Fields.{Fields}
 use Rattle.tag.proofs.Expected.{due-somewhere}
 use Rattle.verdict.specs.Verdicts.{count, lowest, nonzero, judgedBy, judged}
 use Rattle.stripe.specs.Tables.{span}
-use Rattle.stripe.specs.Formats.{t10, Summary}
+use Rattle.tag.specs.Blocks.{formatAt}
+use Rattle.stripe.specs.Formats.{Summary}
 use Rattle.stripe.specs.Verdicts.{badMembers, tornPlaces, verdict}
 use Rattle.stripe.proofs.Tables.{length-table, getD-table, table-ext}
 use Rattle.scan.specs.declared.Scan.{Scan}
@@ -32,22 +39,30 @@ module _ (s : Scan) where
   badHeld-at m h good e = getD-table (s .array .members) (λ m. not (goodHeld s m)) false m h ∙ ap not (sym e)
 
   -- one member, by the steps of its check
-  pub good-by-steps : (m : ℕ) → ownerRefusal (s .array) (s .stripe) m ≡ 0 → (expected : Fields) (tag : List ℕ) (f : Fields) (good : Bool)
-      → expected ≡ dueAt (s .array) (s .stripe) m (getD (s .register) m 0) → tag ≡ take 8 (drop (8 * m) (s .tag)) → f ≡ found tag
+  pub good-by-steps : (m at g : ℕ) → ownerRefusal (s .array) (s .stripe) m ≡ 0 → m < 16 → length (s .tag) ≡ mostTags → s .array .members ≤ length (s .register)
+      → (expected f : Fields) (good : Bool) → at ≡ formatAt (s .array) .tagLength * m → g ≡ formatAt (s .array) .guardOf (getD (s .register) m 0)
+      → expected ≡ dueAt (s .array) (s .stripe) m g → f ≡ found (formatAt (s .array)) (tagWithin (formatAt (s .array)) (s .tag) at)
       → good ≡ fits f expected → good ≡ goodHeld s m
   unfolding goodHeld span
-  good-by-steps m place expected tag f good e t g r =
-      r ∙ ap₂ fits (g ∙ ap found t) (e ∙ due-somewhere (s .array) (s .stripe) m (getD (s .register) m 0) place)
+  good-by-steps m at g place few long held expected f good here eg e r q =
+      let F = formatAt (s .array) in
+      let n = s .array .members in
+      let inside : m < n = place-sound (s .array) (s .stripe) m place .here in
+      let tag : tagWithin F (s .tag) at ≡ take (F .tagLength) (drop (F .tagLength * m) (s .tag)) =
+      ap (tagWithin F (s .tag)) here ∙ tag-inside F (s .tag) (F .tagLength * m) (omega (arith, long, times-next (F .tagLength) m 16 few, F .tag-quarters, F .quarter-most)) in
+      let told : g ≡ getD (map (F .guardOf) (take n (s .register))) m 0 =
+      eg ∙ ap (F .guardOf) (sym (getD-take n (s .register) m 0 inside)) ∙ sym (getD-map-in (F .guardOf) (take n (s .register)) m 0 0 (rw length-take (omega arith))) in
+      q ∙ ap₂ fits (r ∙ ap (found F) tag) (e ∙ due-somewhere (s .array) (s .stripe) m g place ∙ ap (due (s .array) (s .stripe) m) told)
 
   -- the summary of what is held says the same of the members
-  bad-members-held : (w : List ℕ) → badMembers (s .array) (s .stripe) (heldSummary t10 (s .array .members) (s .register) (s .tag) w) ≡ badHeld s
+  bad-members-held : (w : List ℕ) → badMembers (s .array) (s .stripe) (heldSummary (formatAt (s .array)) (s .array .members) (s .register) (s .tag) w) ≡ badHeld s
   unfolding badMembers badHeld goodHeld heldSummary
   bad-members-held w =
+      let F = formatAt (s .array) in
       table-ext (s .array .members) _ _
       (λ m h.
-      ap₂ (λ (t : List ℕ) (g : ℕ). not (fits (found t) (due (s .array) (s .stripe) m g)))
-      (getD-table (s .array .members) (λ m. span (8 * m) 8 (s .tag)) [] m h)
-      (List·getD-map (λ r. r) (take (s .array .members) (s .register)) m 0 ∙ getD-take (s .array .members) (s .register) m 0 h))
+      ap (λ (t : List ℕ). not (fits (found F t) (due (s .array) (s .stripe) m (getD (map (F .guardOf) (take (s .array .members) (s .register))) m 0))))
+      (getD-table (s .array .members) (λ m. span (F .tagLength * m) (F .tagLength) (s .tag)) [] m h))
 
   module _ (w : List ℕ) where
     pub finish-found : finishRefusal s (length w) ≡ 0 → (low many : ℕ) (numbers : List ℕ) → low ≡ lowest (badHeld s) → many ≡ count (badHeld s)
@@ -56,11 +71,11 @@ module _ (s : Scan) where
     finish-found none low many numbers l c e =
         ap (λ (x : List ℕ). 1 ∷ 0 ∷ x)
         (e ∙ ap₂ (λ (x y : ℕ). judgedBy x y (nonzero w)) l c ∙ sym (ap (λ (x : List Bool). judged x (nonzero w)) (bad-members-held w)))
-        ∙ sym (ap (λ (k : ℕ). answer k (verdict (s .array) (s .stripe) (heldSummary t10 (s .array .members) (s .register) (s .tag) w))) none)
+        ∙ sym (ap (λ (k : ℕ). answer k (verdict (s .array) (s .stripe) (heldSummary (formatAt (s .array)) (s .array .members) (s .register) (s .tag) w))) none)
 
     pub finish-refused : finishRefusal s (length w) ≢ 0 → finishNumbers s w ≡ 0 ∷ finishRefusal s (length w) ∷ 0 ∷ 0 ∷ 0 ∷ []
     unfolding finishNumbers
-    finish-refused = go (finishRefusal s (length w)) (heldSummary t10 (s .array .members) (s .register) (s .tag) w)
+    finish-refused = go (finishRefusal s (length w)) (heldSummary (formatAt (s .array)) (s .array .members) (s .register) (s .tag) w)
       where
         go : (number : ℕ) (x : Summary) → number ≢ 0 → answer number (verdict (s .array) (s .stripe) x) ≡ 0 ∷ number ∷ 0 ∷ 0 ∷ 0 ∷ []
         go zero x h = absurd (h refl)

@@ -7,7 +7,7 @@ use mathlib.Core.List.{List}
 use Prim.Native.Nat.{ℕ}
 use lib.ListN.{length}
 use Rattle.layout.specs.declared.Array.{Array}
-use Rattle.stripe.specs.Formats.{t10}
+use Rattle.tag.specs.Blocks.{formatAt}
 use Rattle.scan.specs.declared.Scan.{Scan}
 use Rattle.scan.specs.History.{Call, begun}
 use Rattle.scan.specs.Scans.{fit, startRefusal, startState, startWork}
@@ -28,5 +28,5 @@ module _ (a : Array) (stripe : ℕ) (old : List ℕ) (accepted : startRefusal a 
   pub run-stays-fit : fit last ≡ true
   run-stays-fit = is-fit a stripe (start-sound a stripe old accepted) last left (historyOf a stripe calls) run-follows-history
 
-  pub run-keeps-length : length left ≡ t10 .dataLength
+  pub run-keeps-length : length left ≡ formatAt a .dataLength
   run-keeps-length = work-long a stripe (start-sound a stripe old accepted) last left (historyOf a stripe calls) run-follows-history

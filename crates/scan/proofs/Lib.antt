@@ -1,5 +1,4 @@
 pub mod Joins
-pub mod Stores
 pub mod Follows
 pub mod Parts
 pub mod Pieces
@@ -13,10 +12,9 @@ pub mod Traces
 pub mod Lasting
 pub mod Occurring
 pub mod Theorem
+pub mod Examples
 pub mod Feeding
 pub mod Halves
-pub mod Examples
-pub mod Ranges
 pub mod Fitness
 pub mod Rows
 pub mod Cuts

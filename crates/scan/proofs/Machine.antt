@@ -11,7 +11,8 @@ use borrow.Author.Tests.{ltb-true, ltb-false, eqb-true}
 use lib.ListN.{length, getD, set}
 use Rattle.layout.specs.Answers.{refuse, answer}
 use Rattle.stripe.specs.Tables.{all}
-use Rattle.stripe.specs.Formats.{Format, whole, Summary, summaryOf}
+use Rattle.format.specs.Formats.{Format}
+use Rattle.stripe.specs.Formats.{Summary, summaryOf}
 use Rattle.scan.specs.History.{Call, piece, finish, pieceNumber, finishNumber, answerTo, kept}
 use Rattle.scan.specs.Scans.{heldSummary}
 use Rattle.scan.specs.Holding.{Held, Follows}
@@ -36,39 +37,39 @@ accepted block members scrub history m bytes e = go (ltb m members) refl (ltb (b
 -- ---- one call
 
 module _ (F : Format) (n : ℕ) (judge : Summary → List ℕ) (h : Held F) (history : List (List ℕ)) (t : Follows F n h history) where
-  pub piece-number-is : (m : ℕ) (bytes : List ℕ) → heldPieceNumber F n h m bytes ≡ pieceNumber (whole F) n (scrubOf F judge) history m bytes
+  pub piece-number-is : (m : ℕ) (bytes : List ℕ) → heldPieceNumber F n h m bytes ≡ pieceNumber (F .blockLength) n (scrubOf F judge) history m bytes
   piece-number-is m bytes = go (ltb m n) refl
     where
       go : (f : Bool) → ltb m n ≡ f
-          → refuse (not f) 5 (refuse (ltb (whole F - getD (h .at) m 0) (length bytes)) 7 0)
-          ≡ refuse (not f) 5 (refuse (ltb (whole F - length (getD history m [])) (length bytes)) 7 0)
+          → refuse (not f) 5 (refuse (ltb (F .blockLength - getD (h .at) m 0) (length bytes)) 7 0)
+          ≡ refuse (not f) 5 (refuse (ltb (F .blockLength - length (getD history m [])) (length bytes)) 7 0)
       go true e = rw (position-is F n h history t m bytes (ltb-true m n e))
       go false e = refl
 
   finish-is : ((x y : Summary) → length (judge x) ≡ length (judge y))
       → answer (heldFinishNumber F n h) (judge (heldSummary F n (h .register) (h .tag) (h .work)))
-      ≡ answer (finishNumber (whole F) n (scrubOf F judge) history) (judge (summaryOf F history))
-  finish-is even = rw (flags-are F n h history t) (go (all (map (λ taken. leb (whole F) (length taken)) history)) refl)
+      ≡ answer (finishNumber (F .blockLength) n (scrubOf F judge) history) (judge (summaryOf F history))
+  finish-is even = rw (flags-are F n h history t) (go (all (map (λ taken. leb (F .blockLength) (length taken)) history)) refl)
     where
-      go : (f : Bool) → all (map (λ taken. leb (whole F) (length taken)) history) ≡ f
+      go : (f : Bool) → all (map (λ taken. leb (F .blockLength) (length taken)) history) ≡ f
           → answer (refuse (not f) 8 0) (judge (heldSummary F n (h .register) (h .tag) (h .work))) ≡ answer (refuse (not f) 8 0) (judge (summaryOf F history))
       go true e = rw (summary-held F n h history t e)
       go false e = refused-alike 7 (judge (heldSummary F n (h .register) (h .tag) (h .work))) (judge (summaryOf F history)) (even _ _)
 
   pub call-answered : ((x y : Summary) → length (judge x) ≡ length (judge y))
-      → (c : Call) → heldAnswer F n judge h c ≡ answerTo (whole F) n (scrubOf F judge) history c
+      → (c : Call) → heldAnswer F n judge h c ≡ answerTo (F .blockLength) n (scrubOf F judge) history c
   unfolding heldAnswer answerTo
   call-answered even (piece m bytes) = ap (λ (k : ℕ). k ∷ []) (piece-number-is m bytes)
   call-answered even finish = finish-is even
 
-  pub call-follows : (c : Call) → Follows F n (heldAfter F n judge h c) (kept (whole F) n (scrubOf F judge) history c)
+  pub call-follows : (c : Call) → Follows F n (heldAfter F n judge h c) (kept (F .blockLength) n (scrubOf F judge) history c)
   unfolding heldAfter kept
-  call-follows (piece m bytes) = rw (piece-number-is m bytes) (go (eqb (pieceNumber (whole F) n (scrubOf F judge) history m bytes) 0) refl)
+  call-follows (piece m bytes) = rw (piece-number-is m bytes) (go (eqb (pieceNumber (F .blockLength) n (scrubOf F judge) history m bytes) 0) refl)
     where
-      go : (f : Bool) → eqb (pieceNumber (whole F) n (scrubOf F judge) history m bytes) 0 ≡ f
+      go : (f : Bool) → eqb (pieceNumber (F .blockLength) n (scrubOf F judge) history m bytes) 0 ≡ f
           → Follows F n (cond f (taken F h m bytes) h) (cond f (set history m (getD history m [] ++ bytes)) history)
       go true e =
-          let ok = accepted (whole F) n (scrubOf F judge) history m bytes (eqb-true (pieceNumber (whole F) n (scrubOf F judge) history m bytes) 0 e) in
+          let ok = accepted (F .blockLength) n (scrubOf F judge) history m bytes (eqb-true (pieceNumber (F .blockLength) n (scrubOf F judge) history m bytes) 0 e) in
           piece-follows F n h history t m bytes (ok .0) (omega (arith, ok .1, t .fits m))
       go false e = t
   call-follows finish = t

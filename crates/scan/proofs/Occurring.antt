@@ -11,7 +11,7 @@ use Rattle.verdict.specs.declared.Verdict.the-variants.{Clean, Bad, Torn}
 use Rattle.verdict.specs.declared.Scrubbed.{Scrubbed}
 use Rattle.verdict.specs.declared.Scrubbed.the-variants.{Refused, Found}
 use Rattle.verdict.specs.Verdicts.{count, lowest, judgedBy, judged, verdictNumbers, scrubbedNumbers}
-use Rattle.stripe.specs.Formats.{t10}
+use Rattle.tag.specs.Blocks.{formatAt}
 use Rattle.stripe.specs.Verdicts.{badMembers, tornPlaces}
 use Rattle.scan.specs.declared.Scan.{Scan}
 use Rattle.scan.specs.declared.Taken.{Taken}
@@ -43,13 +43,13 @@ some-finish s w = go (finishRefusal s (length w)) refl
   where
     go : (number : ℕ) → finishRefusal s (length w) ≡ number → Answered s w
     go zero e =
-        let held = heldSummary t10 (s .array .members) (s .register) (s .tag) w in
+        let held = heldSummary (formatAt (s .array)) (s .array .members) (s .register) (s .tag) w in
         let v = some-verdict (badMembers (s .array) (s .stripe) held) (tornPlaces held) in
         record { given = Found (v .verdict); same = rw e (ap (λ (l : List ℕ). 1 ∷ 0 ∷ l) (v .same)) }
     go (suc number) e =
         record {
           given = Refused (suc number);
-          same = rw e (sym (refused-verdict (s .array) (s .stripe) number (heldSummary t10 (s .array .members) (s .register) (s .tag) w)));
+          same = rw e (sym (refused-verdict (s .array) (s .stripe) number (heldSummary (formatAt (s .array)) (s .array .members) (s .register) (s .tag) w)));
         }
 
 pub every-list-runs : (calls : List Call) (s : Scan) (w : List ℕ) → Ran s w calls

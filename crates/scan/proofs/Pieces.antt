@@ -10,12 +10,14 @@ use lib.ListN.{length, getD, take, set, replicate, length-set, length-map, lengt
 use lib.Seq.{sets, length-sets, getD-take, take-set-lt, getD-set-same, getD-set-other}
 use Rattle.xor.specs.Xors.{xors, addAll, combination}
 use Rattle.xor.proofs.Combination.{addAll-set}
-use Rattle.stripe.specs.Formats.{Format, whole, dataIn, tagIn, registerOf}
+use Rattle.format.specs.Formats.{Format}
+use Rattle.tag.specs.Blocks.{dataOf, tagOf}
+use Rattle.stripe.specs.Formats.{registerOf}
 use Rattle.scan.specs.Scans.{tagOfPiece, positions, registers, tags, buffer}
 use Rattle.scan.specs.Holding.{Held, Follows}
 use Rattle.scan.specs.Machines.{taken}
 use Rattle.scan.proofs.Joins.{map-set, getD-map-in}
-use Rattle.scan.proofs.Stores.{getD-sets-before, getD-sets-past, sets-grow}
+use Rattle.copy.proofs.Stores.{getD-sets-before, getD-sets-past, sets-grow}
 use Rattle.scan.proofs.Parts.{tag-joined, tag-place, tag-fits, register-joined, work-joined}
 
 -- the tags of two members lie apart
@@ -31,7 +33,7 @@ module _ (F : Format) (n : ℕ) (h : Held F) (history : List (List ℕ)) (t : Fo
 
   register-now : getD (h .register) m (F .start) ≡ registerOf F (getD history m [])
   register-now =
-      sym (getD-take n (h .register) m (F .start) hm) ∙ ap (λ (l : List (F .Register)). getD l m (F .start)) (t .register-is)
+      sym (getD-take n (h .register) m (F .start) hm) ∙ ap (λ (l : List ℕ). getD l m (F .start)) (t .register-is)
       ∙ getD-map-in (registerOf F) history m (F .start) [] kept-in
 
   at-taken : take n (positions F (h .at) m bytes) ≡ map length (set history m (getD history m [] ++ bytes))
@@ -42,27 +44,27 @@ module _ (F : Format) (n : ℕ) (h : Held F) (history : List (List ℕ)) (t : Fo
   unfolding registers
   register-taken = rw (take-set-lt, t .register-is, position-is, register-now, map-set, register-joined)
 
-  work-taken : buffer F (h .at) (h .work) m bytes ≡ combination (F .dataLength) (map (dataIn F) (set history m (getD history m [] ++ bytes)))
+  work-taken : buffer F (h .at) (h .work) m bytes ≡ combination (F .dataLength) (map (dataOf F) (set history m (getD history m [] ++ bytes)))
   unfolding buffer
   work-taken =
-      let same : addAll (replicate (F .dataLength) 0) (set (map (dataIn F) history) m (dataIn F (getD history m [] ++ bytes)))
-      ≡ xors (xors (combination (F .dataLength) (map (dataIn F) history)) (dataIn F (getD history m []))) (dataIn F (getD history m [] ++ bytes)) =
-      addAll-set (replicate (F .dataLength) 0) (map (dataIn F) history) m (dataIn F (getD history m [] ++ bytes)) (rw length-map kept-in)
-      ∙ ap (λ (l : List ℕ). xors (xors (combination (F .dataLength) (map (dataIn F) history)) l) (dataIn F (getD history m [] ++ bytes)))
-      (getD-map-in (dataIn F) history m [] [] kept-in) in
-      rw (position-is, t .work-is, map-set, same) (work-joined F (getD history m []) bytes (combination (F .dataLength) (map (dataIn F) history)))
+      let same : addAll (replicate (F .dataLength) 0) (set (map (dataOf F) history) m (dataOf F (getD history m [] ++ bytes)))
+      ≡ xors (xors (combination (F .dataLength) (map (dataOf F) history)) (dataOf F (getD history m []))) (dataOf F (getD history m [] ++ bytes)) =
+      addAll-set (replicate (F .dataLength) 0) (map (dataOf F) history) m (dataOf F (getD history m [] ++ bytes)) (rw length-map kept-in)
+      ∙ ap (λ (l : List ℕ). xors (xors (combination (F .dataLength) (map (dataOf F) history)) l) (dataOf F (getD history m [] ++ bytes)))
+      (getD-map-in (dataOf F) history m [] [] kept-in) in
+      rw (position-is, t .work-is, map-set, same) (work-joined F (getD history m []) bytes (combination (F .dataLength) (map (dataOf F) history)))
 
-  tag-taken : length (getD history m []) + length bytes ≤ whole F → (i : ℕ) → i < n → (j : ℕ) → j < F .tagLength
-      → getD (tags F (h .at) (h .tag) m bytes) (F .tagLength * i + j) 0 ≡ getD (tagIn F (getD (set history m (getD history m [] ++ bytes)) i [])) j 0
+  tag-taken : length (getD history m []) + length bytes ≤ F .blockLength → (i : ℕ) → i < n → (j : ℕ) → j < F .tagLength
+      → getD (tags F (h .at) (h .tag) m bytes) (F .tagLength * i + j) 0 ≡ getD (tagOf F (getD (set history m (getD history m [] ++ bytes)) i [])) j 0
   unfolding tags
   tag-taken room i hi j hj = rw (position-is, tag-place F (getD history m []) bytes) (go (ℕ-discrete i m) (decLt i m))
     where
       go : Dec (i ≡ m) → Dec (i < m)
-          → getD (sets (h .tag) (F .tagLength * m + length (tagIn F (getD history m []))) (tagOfPiece F (length (getD history m [])) bytes)) (F .tagLength * i + j) 0
-          ≡ getD (tagIn F (getD (set history m (getD history m [] ++ bytes)) i [])) j 0
+          → getD (sets (h .tag) (F .tagLength * m + length (tagOf F (getD history m []))) (tagOfPiece F (length (getD history m [])) bytes)) (F .tagLength * i + j) 0
+          ≡ getD (tagOf F (getD (set history m (getD history m [] ++ bytes)) i [])) j 0
       go (yes e) d =
           rw (e, getD-set-same history m (getD history m [] ++ bytes) [] kept-in, tag-joined)
-          (sets-grow (h .tag) (F .tagLength * m) (F .tagLength) (tagIn F (getD history m [])) (tagOfPiece F (length (getD history m [])) bytes)
+          (sets-grow (h .tag) (F .tagLength * m) (F .tagLength) (tagOf F (getD history m [])) (tagOfPiece F (length (getD history m [])) bytes)
           (omega (arith, t .tag-long, apart (F .tagLength) m n hm)) (tag-fits F (getD history m []) bytes room) (t .tag-is m hm) j hj)
       go (no e) (yes l) =
           rw (getD-set-other history m i (getD history m [] ++ bytes) [] e)
@@ -73,14 +75,14 @@ module _ (F : Format) (n : ℕ) (h : Held F) (history : List (List ℕ)) (t : Fo
           (getD-sets-past (h .tag) _ (tagOfPiece F (length (getD history m [])) bytes) (F .tagLength * i + j)
           (omega (arith, apart (F .tagLength) m i (omega arith), tag-fits F (getD history m []) bytes room)) ∙ t .tag-is i hi j hj)
 
-  fits-taken : length (getD history m []) + length bytes ≤ whole F → (i : ℕ) → length (getD (set history m (getD history m [] ++ bytes)) i []) ≤ whole F
+  fits-taken : length (getD history m []) + length bytes ≤ F .blockLength → (i : ℕ) → length (getD (set history m (getD history m [] ++ bytes)) i []) ≤ F .blockLength
   fits-taken room i = go (ℕ-discrete i m)
     where
-      go : Dec (i ≡ m) → length (getD (set history m (getD history m [] ++ bytes)) i []) ≤ whole F
+      go : Dec (i ≡ m) → length (getD (set history m (getD history m [] ++ bytes)) i []) ≤ F .blockLength
       go (yes e) = rw (e, getD-set-same history m (getD history m [] ++ bytes) [] kept-in, length-append) room
       go (no e) = rw (getD-set-other history m i (getD history m [] ++ bytes) [] e) (t .fits i)
 
-  pub piece-follows : length (getD history m []) + length bytes ≤ whole F → Follows F n (taken F h m bytes) (set history m (getD history m [] ++ bytes))
+  pub piece-follows : length (getD history m []) + length bytes ≤ F .blockLength → Follows F n (taken F h m bytes) (set history m (getD history m [] ++ bytes))
   unfolding positions registers tags
   piece-follows room =
       record {

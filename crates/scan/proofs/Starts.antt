@@ -3,12 +3,14 @@
 use mathlib.Core.Path.{_≡_, refl}
 use mathlib.Core.List.{List}
 use Prim.Native.Nat.{ℕ, zero, suc}
+use native.Mathlib.Omega.{arith}
 use lib.ListN.{length}
+use Rattle.format.specs.Formats.{mostTags}
 use Rattle.layout.specs.Answers.{after}
 use Rattle.layout.specs.Arrays.{stripeRefusal}
 use Rattle.layout.specs.declared.Array.{Array}
 use Rattle.layout.proofs.Ranges.{stripe-sound}
-use Rattle.stripe.specs.Formats.{t10}
+use Rattle.tag.specs.Blocks.{formatAt}
 use Rattle.scan.specs.declared.Scan.{Scan}
 use Rattle.scan.specs.History.{begun}
 use Rattle.scan.specs.Scans.{startRefusal, emptyScan, startState, startWork}
@@ -27,4 +29,4 @@ module _ (a : Array) (stripe : ℕ) (old : List ℕ) (accepted : startRefusal a 
   pub start-holds : {s : Scan} {w : List ℕ} → s ≡ startState a stripe (length old) → w ≡ startWork a stripe old → Holds a stripe s w (begun (a .members))
   unfolding startState startWork emptyScan
   start-holds e f =
-      rw (e, f, accepted) record { array = refl; place = refl; follows = fresh-follows t10 16 (a .members) (stripe-sound a stripe start-sound .array .many) }
+      rw (e, f, accepted) record { array = refl; place = refl; follows = fresh-follows (formatAt a) 16 mostTags (a .members) (stripe-sound a stripe start-sound .array .many) (let F = formatAt a in omega arith) }

@@ -6,7 +6,7 @@ use mathlib.Core.List.{List}
 use Prim.Native.Nat.{ℕ}
 use lib.ListN.{length}
 use Rattle.layout.specs.declared.Array.{Array}
-use Rattle.stripe.specs.Formats.{t10, whole}
+use Rattle.tag.specs.Blocks.{formatAt}
 use Rattle.stripe.specs.Verdicts.{scrubBlocks}
 use Rattle.scan.specs.declared.Scan.{Scan}
 use Rattle.scan.specs.History.{Call, begun, answers}
@@ -20,7 +20,7 @@ use Rattle.scan.proofs.Traces.{run-answers}
 pub run-answers-as-history : (a : Array) (stripe : ℕ) (old : List ℕ) → startRefusal a stripe (length old) ≡ 0
     → {s last : Scan} {w left : List ℕ} → s ≡ startState a stripe (length old) → w ≡ startWork a stripe old
     → {calls : List Call} {xs : List (List ℕ)} → ScanRun s w calls xs last left
-    → xs ≡ answers (whole t10) (a .members) (scrubBlocks a stripe) (begun (a .members)) calls
+    → xs ≡ answers (formatAt a .blockLength) (a .members) (scrubBlocks a stripe) (begun (a .members)) calls
 run-answers-as-history a stripe old accepted started cleared =
     run-answers a stripe (start-sound a stripe old accepted) (begun (a .members)) (start-holds a stripe old accepted started cleared)
 

@@ -7,17 +7,16 @@ use Prim.Native.Nat.{ℕ}
 use lib.ListN.{length, getD, replicate}
 use Rattle.xor.specs.Xors.{combination}
 use Rattle.crc.specs.Crc.{bitsOf, Bytes, Within}
-use Rattle.crc.specs.Guard.{guard}
+use Rattle.format.specs.Formats.{guard}
 use Rattle.layout.specs.declared.Array.{Array}
-use Rattle.tag.specs.Blocks.{dataLength, dataOf}
+use Rattle.tag.specs.Blocks.{formatAt, dataOf}
 use Rattle.verdict.specs.Verdicts.{quickNumbers}
-use Rattle.stripe.specs.Formats.{t10, whole}
 use Rattle.stripe.specs.Verdicts.{scrubBlocks, storedGuard}
 use Rattle.scan.specs.History.{Call, piece, finish, begun, kept, answers}
 
 -- the history after calls: the bytes of each member that were taken
 abbrev pub historyOf : Array → ℕ → List Call → List (List ℕ)
-historyOf a stripe calls = foldl (kept (whole t10) (a .members) (scrubBlocks a stripe)) (begun (a .members)) calls
+historyOf a stripe calls = foldl (kept (formatAt a .blockLength) (a .members) (scrubBlocks a stripe)) (begun (a .members)) calls
 
 -- what is handed in are bytes
 abbrev pub ByteCalls : List Call → Type 0
@@ -26,8 +25,8 @@ ByteCalls (piece member bytes ∷ calls) = Bytes bytes × ByteCalls calls
 ByteCalls (finish ∷ calls) = ByteCalls calls
 
 -- parity is right where the data of all blocks combine to zero; otherwise this is the parity difference
-abbrev pub together : List (List ℕ) → List ℕ
-together blocks = combination dataLength (map dataOf blocks)
+abbrev pub together : Array → List (List ℕ) → List ℕ
+together a blocks = combination (formatAt a .dataLength) (map (dataOf (formatAt a)) blocks)
 
 -- a finish among the calls, after those of `before`, whose answer is a verdict and not of bad members: done, no refusal, its kind
 pub record FoundNoneBad (calls before : List Call) (xs : List (List ℕ)) : Type 0 where
@@ -42,12 +41,12 @@ pub record FoundNoneBad (calls before : List Call) (xs : List (List ℕ)) : Type
 -- the three parts: every answer is the history's; and at every such finish the quick scrub of the stored guards fits where parity is
 -- right, and differs, by the guard of the parity difference, where that lies within sixteen successive bits
 pub record CutAnywhere (a : Array) (stripe : ℕ) (calls : List Call) (xs : List (List ℕ)) : Type 0 where
-  pub answered : xs ≡ answers (whole t10) (a .members) (scrubBlocks a stripe) (begun (a .members)) calls
+  pub answered : xs ≡ answers (formatAt a .blockLength) (a .members) (scrubBlocks a stripe) (begun (a .members)) calls
   pub quick-fits : ByteCalls calls → (before : List Call) → FoundNoneBad calls before xs
-      → together (historyOf a stripe before) ≡ replicate dataLength 0
-      → quickNumbers (map storedGuard (historyOf a stripe before)) ≡ 1 ∷ 0 ∷ 0 ∷ 0 ∷ []
+      → together a (historyOf a stripe before) ≡ replicate (formatAt a .dataLength) 0
+      → quickNumbers (map (storedGuard (formatAt a)) (historyOf a stripe before)) ≡ 1 ∷ 0 ∷ 0 ∷ 0 ∷ []
   pub quick-differs : ByteCalls calls → (before : List Call) → FoundNoneBad calls before xs
-      → together (historyOf a stripe before) ≢ replicate dataLength 0
-      → Within 16 (bitsOf (together (historyOf a stripe before))) (bitsOf (replicate dataLength 0))
-      → (guard (together (historyOf a stripe before)) ≢ 0)
-      × (quickNumbers (map storedGuard (historyOf a stripe before)) ≡ 1 ∷ 0 ∷ 1 ∷ guard (together (historyOf a stripe before)) ∷ [])
+      → together a (historyOf a stripe before) ≢ replicate (formatAt a .dataLength) 0
+      → Within 16 (bitsOf (together a (historyOf a stripe before))) (bitsOf (replicate (formatAt a .dataLength) 0))
+      → (guard (formatAt a) (together a (historyOf a stripe before)) ≢ 0)
+      × (quickNumbers (map (storedGuard (formatAt a)) (historyOf a stripe before)) ≡ 1 ∷ 0 ∷ 1 ∷ guard (formatAt a) (together a (historyOf a stripe before)) ∷ [])

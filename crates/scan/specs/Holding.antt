@@ -6,13 +6,15 @@ use Prim.Native.Nat.{ℕ, _+_, _*_, _≤_, _<_}
 use lib.ListN.{length, getD, take}
 use Rattle.xor.specs.Xors.{combination}
 use Rattle.layout.specs.declared.Array.{Array}
-use Rattle.stripe.specs.Formats.{Format, t10, whole, dataIn, tagIn, registerOf}
+use Rattle.format.specs.Formats.{Format}
+use Rattle.tag.specs.Blocks.{formatAt, dataOf, tagOf}
+use Rattle.stripe.specs.Formats.{registerOf}
 use Rattle.scan.specs.declared.Scan.{Scan}
 
 -- over any format of block
 pub record Held (F : Format) : Type 0 where
   pub at : List ℕ
-  pub register : List (F .Register)
+  pub register : List ℕ
   pub tag : List ℕ
   pub work : List ℕ
 
@@ -22,18 +24,18 @@ pub record Follows (F : Format) (n : ℕ) (h : Held F) (history : List (List ℕ
   pub at-long : n ≤ length (h .at)
   pub register-long : n ≤ length (h .register)
   pub tag-long : F .tagLength * n ≤ length (h .tag)
-  pub fits : (i : ℕ) → length (getD history i []) ≤ whole F
+  pub fits : (i : ℕ) → length (getD history i []) ≤ F .blockLength
   pub at-is : take n (h .at) ≡ map length history
   pub register-is : take n (h .register) ≡ map (registerOf F) history
-  pub tag-is : (i : ℕ) → i < n → (j : ℕ) → j < F .tagLength → getD (h .tag) (F .tagLength * i + j) 0 ≡ getD (tagIn F (getD history i [])) j 0
-  pub work-is : h .work ≡ combination (F .dataLength) (map (dataIn F) history)
+  pub tag-is : (i : ℕ) → i < n → (j : ℕ) → j < F .tagLength → getD (h .tag) (F .tagLength * i + j) 0 ≡ getD (tagOf F (getD history i [])) j 0
+  pub work-is : h .work ≡ combination (F .dataLength) (map (dataOf F) history)
 
 -- by the declared state and the lent buffer
-abbrev pub held : Scan → List ℕ → Held t10
-held s w = record { at = s .at; register = s .register; tag = s .tag; work = w }
+abbrev pub held : (F : Format) → Scan → List ℕ → Held F
+held F s w = record { at = s .at; register = s .register; tag = s .tag; work = w }
 
 -- of an array and a stripe: the state's numbers are theirs
 pub record Holds (a : Array) (stripe : ℕ) (s : Scan) (w : List ℕ) (history : List (List ℕ)) : Type 0 where
   pub array : s .array ≡ a
   pub place : s .stripe ≡ stripe
-  pub follows : Follows t10 (a .members) (held s w) history
+  pub follows : Follows (formatAt a) (a .members) (held (formatAt a) s w) history

@@ -1,21 +1,22 @@
 -- The scan over any format, as a machine: what it answers to a call and what it holds after, by the functions that the promises of
 -- the calls name. Assumes nothing.
-use Prim.Native.Nat.{ℕ, _-_, _*_}
+use Prim.Native.Nat.{ℕ, _-_}
 use mathlib.Core.Bool.{not, cond}
 use mathlib.Core.List.{List, [], _∷_, map}
 use lib.Dec.{ltb, eqb}
 use lib.ListN.{length, getD, take, replicate}
 use Rattle.layout.specs.Answers.{refuse, answer}
 use Rattle.stripe.specs.Tables.{all}
-use Rattle.stripe.specs.Formats.{Format, whole, Summary, summaryOf}
+use Rattle.format.specs.Formats.{Format}
+use Rattle.stripe.specs.Formats.{Summary, summaryOf}
 use Rattle.scan.specs.History.{Call, piece, finish}
 use Rattle.scan.specs.Holding.{Held}
 use Rattle.scan.specs.Scans.{positions, registers, tags, buffer, heldSummary}
 
--- nothing taken yet, with room for `size` members
-abbrev pub fresh : (F : Format) → ℕ → Held F
-fresh F size =
-    record { at = replicate size 0; register = replicate size (F .start); tag = replicate (F .tagLength * size) 0; work = replicate (F .dataLength) 0 }
+-- nothing taken yet, with room for `size` members and `room` bytes of tags
+abbrev pub fresh : (F : Format) → ℕ → ℕ → Held F
+fresh F size room =
+    record { at = replicate size 0; register = replicate size (F .start); tag = replicate room 0; work = replicate (F .dataLength) 0 }
 
 -- what a piece makes of what is held
 abbrev pub taken : (F : Format) → Held F → ℕ → List ℕ → Held F
@@ -33,10 +34,10 @@ scrubOf F judge blocks = judge (summaryOf F blocks)
 
 module _ (F : Format) (n : ℕ) where
   abbrev pub heldPieceNumber : Held F → ℕ → List ℕ → ℕ
-  heldPieceNumber h m bytes = refuse (not (ltb m n)) 5 (refuse (ltb (whole F - getD (h .at) m 0) (length bytes)) 7 0)
+  heldPieceNumber h m bytes = refuse (not (ltb m n)) 5 (refuse (ltb (F .blockLength - getD (h .at) m 0) (length bytes)) 7 0)
 
   abbrev pub heldFinishNumber : Held F → ℕ
-  heldFinishNumber h = refuse (not (all (map (λ p. eqb p (whole F)) (take n (h .at))))) 8 0
+  heldFinishNumber h = refuse (not (all (map (λ p. eqb p (F .blockLength)) (take n (h .at))))) 8 0
 
 module _ (F : Format) (n : ℕ) (judge : Summary → List ℕ) where
   unfoldable pub heldAnswer : Held F → Call → List ℕ

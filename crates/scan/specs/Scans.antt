@@ -8,10 +8,12 @@ use lib.ListN.{length, getD, take, drop, set, replicate}
 use lib.Seq.{sets}
 use Rattle.xor.specs.Xors.{xors}
 use Rattle.layout.specs.Answers.{refuse, after, answer}
-use Rattle.layout.specs.Arrays.{stripeRefusal}
+use Rattle.layout.specs.Arrays.{noArray, stripeRefusal}
 use Rattle.layout.specs.declared.Array.{Array}
 use Rattle.stripe.specs.Tables.{table, all, span}
-use Rattle.stripe.specs.Formats.{Format, t10, whole, Summary}
+use Rattle.format.specs.Formats.{Format, mostTags}
+use Rattle.tag.specs.Blocks.{formatAt}
+use Rattle.stripe.specs.Formats.{Summary}
 use Rattle.stripe.specs.Verdicts.{verdict}
 use Rattle.scan.specs.declared.Scan.{Scan}
 
@@ -29,7 +31,7 @@ module _ (F : Format) where
   unfoldable pub positions : List ℕ → ℕ → List ℕ → List ℕ
   positions at m bytes = set at m (getD at m 0 + length bytes)
 
-  unfoldable pub registers : List ℕ → List (F .Register) → ℕ → List ℕ → List (F .Register)
+  unfoldable pub registers : List ℕ → List ℕ → ℕ → List ℕ → List ℕ
   registers at register m bytes = set register m (F .advance (getD at m 0) (getD register m (F .start)) (dataOfPiece (getD at m 0) bytes))
 
   unfoldable pub tags : List ℕ → List ℕ → ℕ → List ℕ → List ℕ
@@ -39,7 +41,7 @@ module _ (F : Format) where
   buffer at work m bytes = take (getD at m 0) work ++ xors (drop (getD at m 0) work) (dataOfPiece (getD at m 0) bytes)
 
   -- what the registers, tag bytes and work buffer say of a stripe of n members
-  unfoldable pub heldSummary : ℕ → List (F .Register) → List ℕ → List ℕ → Summary
+  unfoldable pub heldSummary : ℕ → List ℕ → List ℕ → List ℕ → Summary
   heldSummary n register tag work =
       record {
         guards = map (F .guardOf) (take n register);
@@ -50,24 +52,21 @@ module _ (F : Format) where
 -- ---- start: the buffer cleared, and a state with nothing taken
 
 unfoldable pub startRefusal : Array → ℕ → ℕ → ℕ
-startRefusal a stripe workBytes = after (stripeRefusal a stripe) (refuse (not (eqb workBytes (t10 .dataLength))) 6 0)
+startRefusal a stripe workBytes = after (stripeRefusal a stripe) (refuse (not (eqb workBytes (formatAt a .dataLength))) 6 0)
 
 unfoldable pub emptyScan : Array → ℕ → Scan
-emptyScan a stripe = record { array = a; stripe = stripe; at = replicate 16 0; register = replicate 16 (t10 .start); tag = replicate 128 0 }
-
-abbrev pub noArray : Array
-noArray = record { members = 0; stripes = 0; volume = 0 }
+emptyScan a stripe = record { array = a; stripe = stripe; at = replicate 16 0; register = replicate 16 (formatAt a .start); tag = replicate mostTags 0 }
 
 unfoldable pub startState : Array → ℕ → ℕ → Scan
 startState a stripe workBytes = cond (eqb (startRefusal a stripe workBytes) 0) (emptyScan a stripe) (emptyScan noArray 0)
 
 unfoldable pub startWork : Array → ℕ → List ℕ → List ℕ
-startWork a stripe work = cond (eqb (startRefusal a stripe (length work)) 0) (replicate (t10 .dataLength) 0) work
+startWork a stripe work = cond (eqb (startRefusal a stripe (length work)) 0) (replicate (formatAt a .dataLength) 0) work
 
 -- ---- a state is fit: numbers in range, and no position of the first n past the end of a block
 
 unfoldable pub fit : Scan → Bool
-fit s = eqb (stripeRefusal (s .array) (s .stripe)) 0 && all (map (λ p. leb p (whole t10)) (take (s .array .members) (s .at)))
+fit s = eqb (stripeRefusal (s .array) (s .stripe)) 0 && all (map (λ p. leb p (formatAt (s .array) .blockLength)) (take (s .array .members) (s .at)))
 
 -- ---- piece
 
@@ -75,16 +74,16 @@ unfoldable pub pieceRefusal : Scan → ℕ → ℕ → ℕ → ℕ
 pieceRefusal s member pieceBytes workBytes =
     refuse (not (fit s)) 4
     (refuse (not (ltb member (s .array .members))) 5
-    (refuse (not (eqb workBytes (t10 .dataLength))) 6 (refuse (ltb (whole t10 - getD (s .at) member 0) pieceBytes) 7 0)))
+    (refuse (not (eqb workBytes (formatAt (s .array) .dataLength))) 6 (refuse (ltb (formatAt (s .array) .blockLength - getD (s .at) member 0) pieceBytes) 7 0)))
 
 unfoldable pub advanced : Scan → ℕ → List ℕ → Scan
 advanced s member bytes =
     record {
       array = s .array;
       stripe = s .stripe;
-      at = positions t10 (s .at) member bytes;
-      register = registers t10 (s .at) (s .register) member bytes;
-      tag = tags t10 (s .at) (s .tag) member bytes;
+      at = positions (formatAt (s .array)) (s .at) member bytes;
+      register = registers (formatAt (s .array)) (s .at) (s .register) member bytes;
+      tag = tags (formatAt (s .array)) (s .at) (s .tag) member bytes;
     }
 
 unfoldable pub pieceState : Scan → ℕ → List ℕ → ℕ → Scan
@@ -92,15 +91,15 @@ pieceState s member bytes workBytes = cond (eqb (pieceRefusal s member (length b
 
 unfoldable pub pieceWork : Scan → ℕ → List ℕ → List ℕ → List ℕ
 pieceWork s member bytes work =
-    cond (eqb (pieceRefusal s member (length bytes) (length work)) 0) (buffer t10 (s .at) work member bytes) work
+    cond (eqb (pieceRefusal s member (length bytes) (length work)) 0) (buffer (formatAt (s .array)) (s .at) work member bytes) work
 
 -- ---- finish: the verdict on what the state and the buffer say of the stripe
 
 unfoldable pub finishRefusal : Scan → ℕ → ℕ
 finishRefusal s workBytes =
     refuse (not (fit s)) 4
-    (refuse (not (eqb workBytes (t10 .dataLength))) 6 (refuse (not (all (map (λ p. eqb p (whole t10)) (take (s .array .members) (s .at))))) 8 0))
+    (refuse (not (eqb workBytes (formatAt (s .array) .dataLength))) 6 (refuse (not (all (map (λ p. eqb p (formatAt (s .array) .blockLength)) (take (s .array .members) (s .at))))) 8 0))
 
 unfoldable pub finishNumbers : Scan → List ℕ → List ℕ
 finishNumbers s work =
-    answer (finishRefusal s (length work)) (verdict (s .array) (s .stripe) (heldSummary t10 (s .array .members) (s .register) (s .tag) work))
+    answer (finishRefusal s (length work)) (verdict (s .array) (s .stripe) (heldSummary (formatAt (s .array)) (s .array .members) (s .register) (s .tag) work))

@@ -2,6 +2,7 @@
 ghost use mathlib.Core.Path.{_≡_};
 ghost use Prim.Native.Nat.{_*_, _≤_};
 ghost use lib.ListN.{length, getD};
+ghost use Rattle.format.specs.Methods.{formatOf};
 ghost use Rattle.layout.specs.Arrays.{stripeRefusal};
 ghost use Rattle.layout.specs.Places.{ownerRefusal};
 ghost use Rattle.verdict.specs.Verdicts.{count, lowest, scrubbedNumbers};
@@ -9,9 +10,8 @@ ghost use Rattle.scan.specs.Scans.{finishRefusal, finishNumbers};
 ghost use Rattle.scan.specs.Steps.{allWhole, goodHeld, badHeld};
 use crate::Scan;
 use crate::fit;
-use tag::BLOCK;
-use tag::DATA;
-use tag::TAG;
+use crate::tag_at;
+use format::METHOD;
 use verdict::Scrubbed;
 
 // The bad members of a stripe: the lowest of them, and how many they are.
@@ -21,13 +21,14 @@ struct BadMembers {
 }
 
 // Whether all of the first positions stand at the end of a block.
-fn all_whole(at: [u16; 16], members: usize) -> bool
+fn all_whole(method: u8, at: [u16; 16], members: usize) -> bool
     requires { ⌜ members ≤ 16 ⌝ }
-    ensures { λ r. ⌜ r ≡ allWhole members at ⌝ }
+    ensures { λ r. ⌜ r ≡ allWhole (formatOf method) members at ⌝ }
 {
+    let block = format::block_length(method);
     let mut member: usize = 0;
     while member < members {
-        if at[member] as usize != BLOCK {
+        if at[member] as usize != block {
             return false;
         }
         member += 1;
@@ -41,13 +42,14 @@ fn finish_refusal(state: Scan, length: usize) -> u8
 {
     let members = state.array.members;
     let at = state.at;
+    let method = METHOD;
     if !fit(state) {
         return 4;
     }
-    if length != DATA {
+    if length != format::data_length(method) {
         return 6;
     }
-    if !all_whole(at, members) {
+    if !all_whole(method, at, members) {
         return 8;
     }
     0
@@ -62,9 +64,11 @@ fn is_good(state: Scan, member: usize) -> bool
     let stripe = state.stripe;
     let register = state.register;
     let bytes = state.tag;
-    let at = TAG * member;
-    let expected = tag::due(array, stripe, member, register[member]);
-    tag::is_due(tag::found(tag::tag_within(&bytes, at)), expected)
+    let method = METHOD;
+    let at = tag_at(method, member);
+    let guard = format::guard_of(method, register[member]);
+    let expected = tag::due(array, stripe, member, guard);
+    tag::is_due(tag::found(method, &bytes, at), expected)
 }
 
 // The bad members, found from the highest down; the lowest is the number of members where none is bad.

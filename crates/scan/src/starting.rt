@@ -4,8 +4,9 @@ ghost use lib.ListN.{length, replicate};
 ghost use Rattle.scan.specs.Scans.{startRefusal, emptyScan, startState, startWork};
 use crate::Scan;
 use crate::Taken;
+use format::METHOD;
+use format::MOST_TAGS;
 use layout::Array;
-use tag::DATA;
 
 // The refusal number of a start: the stripe's own, then 6 where the work buffer has another length.
 fn start_refusal(array: Array, stripe: u64, length: usize) -> u8
@@ -15,7 +16,7 @@ fn start_refusal(array: Array, stripe: u64, length: usize) -> u8
     if refusal != 0 {
         return refusal;
     }
-    if length != DATA {
+    if length != format::data_length(METHOD) {
         return 6;
     }
     0
@@ -36,12 +37,13 @@ fn clear(work: &mut [u8])
 fn empty(array: Array, stripe: u64) -> Scan
     ensures { λ r. ⌜ r ≡ emptyScan array stripe ⌝ }
 {
+    let first = format::start(METHOD);
     Scan {
         array: array,
         stripe: stripe,
         at: [0; 16],
-        register: [0; 16],
-        tag: [0; 128],
+        register: [first; 16],
+        tag: [0; MOST_TAGS],
     }
 }
 
@@ -53,11 +55,7 @@ pub fn start(array: Array, stripe: u64, work: &mut [u8]) -> Taken
 {
     let refusal = start_refusal(array, stripe, work.len());
     if refusal != 0 {
-        let none = Array {
-            members: 0,
-            stripes: 0,
-            volume: 0,
-        };
+        let none = layout::no_array();
         return Taken {
             refusal: refusal,
             state: empty(none, 0),

@@ -1,7 +1,11 @@
 // Reads an image on standard input and writes its report to standard output.
+use format::MOST_DATA;
 use libc::STDIN_FILENO;
 use libc::STDOUT_FILENO;
 use report::Report;
+
+// Room for the lines of one fill: four of the longest.
+const LINES: usize = 512;
 
 // Fills the report with a piece of input until it is used up, and writes out the lines of each fill.
 fn pass(report: Report, input: &[u8], work: &mut [u8], out: &mut [u8]) -> Report {
@@ -30,8 +34,8 @@ fn end(report: Report, out: &mut [u8]) {
 
 fn main() {
     let mut input = io::large_buffer();
-    let mut out = [0u8; 512];
-    let mut work = [0u8; 512];
+    let mut out = [0u8; LINES];
+    let mut work = [0u8; MOST_DATA];
     let mut state = report::new();
     let mut turns = u64::MAX;
     while turns > 0 {

@@ -9,16 +9,20 @@ use native.Mathlib.Decide.{decLt}
 use native.Mathlib.Omega.{arith}
 use lib.ListN.{length, getD, take, drop, set, length-append, length-take, length-drop, take-append-drop}
 use lib.Seq.{take-nil, sets, length-sets, sets-eq, take-set-le, drop-set-lt, take-at, drop-at, drop-append-add, drop-append-le, drop-drop}
-use Rattle.crc.specs.Guard.{guard}
+use Rattle.format.specs.Formats.{guard}
 use Rattle.layout.specs.Places.{ownerRefusal}
 use Rattle.layout.specs.declared.Array.{Array}
-use Rattle.tag.specs.Tags.{due, dueAt, tagBytes, tagged}
+use Rattle.format.specs.Formats.{Format}
+use Rattle.format.proofs.Sizes.{times-next}
+use Rattle.tag.specs.Blocks.{formatAt}
+use Rattle.tag.specs.Tags.{due, dueAt, tagBytes, tagWritten, tagged}
+use Rattle.tag.proofs.Within.{written-inside}
 use Rattle.tag.specs.declared.Fields.{Fields}
 use Rattle.tag.proofs.Expected.{due-somewhere}
 use Rattle.stripe.specs.Tables.{table, joined, span}
 use Rattle.stripe.specs.Stripes.{blockOf}
 use Rattle.stripe.specs.Jobs.{withBlock}
-use Rattle.stripe.proofs.Puts.{sets-append}
+use Rattle.copy.proofs.Puts.{sets-append}
 use Rattle.stripe.proofs.Tables.{length-table, getD-table, table-ext}
 
 pub drop-take : (from size : ℕ) (l : List ℕ) → drop from (take (from + size) l) ≡ take size (drop from l)
@@ -56,25 +60,34 @@ span-sets-above l from size at vs h = ap (take size) (drop-sets from l at vs h)
 
 -- ---- a block written into a stripe
 
-pub block-written : (bytes : List ℕ) (m : ℕ) (block : List ℕ) → length block ≡ 520 → 520 * m + 520 ≤ length bytes → blockOf (withBlock bytes m block) m ≡ block
-block-written bytes m block long h = span-sets-same bytes (520 * m) 520 block long h
+pub block-written : (F : Format) (bytes : List ℕ) (m : ℕ) (block : List ℕ) → length block ≡ (F .blockLength) → (F .blockLength) * m + (F .blockLength) ≤ length bytes → blockOf F (withBlock F bytes m block) m ≡ block
+block-written F bytes m block long h = span-sets-same bytes ((F .blockLength) * m) (F .blockLength) block long h
 
-pub block-kept : (bytes : List ℕ) (m k : ℕ) (block : List ℕ) → length block ≡ 520 → k ≢ m → blockOf (withBlock bytes m block) k ≡ blockOf bytes k
-block-kept bytes m k block long ne = go (decLt k m)
+pub block-kept : (F : Format) (bytes : List ℕ) (m k : ℕ) (block : List ℕ) → length block ≡ (F .blockLength) → k ≢ m → blockOf F (withBlock F bytes m block) k ≡ blockOf F bytes k
+block-kept F bytes m k block long ne = go (decLt k m)
   where
-    go : Dec (k < m) → blockOf (withBlock bytes m block) k ≡ blockOf bytes k
-    go (yes l) = span-sets-below bytes (520 * k) 520 (520 * m) block (omega arith)
-    go (no l) = span-sets-above bytes (520 * k) 520 (520 * m) block (omega arith)
+    go : Dec (k < m) → blockOf F (withBlock F bytes m block) k ≡ blockOf F bytes k
+    go (yes l) = span-sets-below bytes ((F .blockLength) * k) (F .blockLength) ((F .blockLength) * m) block (times-next (F .blockLength) k m l)
+    go (no l) =
+        let after : m < k = omega arith in
+        span-sets-above bytes ((F .blockLength) * k) (F .blockLength) ((F .blockLength) * m) block (omega (arith, times-next (F .blockLength) m k after))
 
 -- written as the code writes it: its data, then the tag due to them
-pub block-in-two : (a : Array) (stripe m g : ℕ) (f : Fields) (bytes once twice content tag : List ℕ) → ownerRefusal a stripe m ≡ 0 → length content ≡ 512
-    → g ≡ guard content → f ≡ dueAt a stripe m g → tag ≡ tagBytes f → once ≡ sets bytes (520 * m) content → twice ≡ sets once (520 * m + 512) tag
-    → twice ≡ withBlock bytes m (tagged a stripe m content)
+pub block-in-two : (a : Array) (stripe m g from to : ℕ) (f : Fields) (bytes once twice content : List ℕ) → ownerRefusal a stripe m ≡ 0 → length content ≡ formatAt a .dataLength
+    → formatAt a .blockLength * m + formatAt a .blockLength ≤ length bytes → g ≡ guard (formatAt a) content → f ≡ dueAt a stripe m g
+    → from ≡ formatAt a .blockLength * m → to ≡ from + formatAt a .dataLength
+    → once ≡ sets bytes from content → twice ≡ tagWritten (formatAt a) f once to
+    → twice ≡ withBlock (formatAt a) bytes m (tagged a stripe m content)
 unfolding tagged
-block-in-two a stripe m g f bytes once twice content tag place long eg ef et e₁ e₂ =
-    let due-here : tag ≡ tagBytes (due a stripe m (guard content)) = et ∙ ap tagBytes (ef ∙ due-somewhere a stripe m g place ∙ ap (due a stripe m) eg) in
-    e₂ ∙ ap₂ (λ (l : List ℕ) (k : ℕ). sets l (520 * m + k) tag) e₁ (sym long) ∙ sets-append bytes (520 * m) content tag
-    ∙ ap (λ (l : List ℕ). sets bytes (520 * m) (content ++ l)) due-here
+block-in-two a stripe m g from to f bytes once twice content place long room eg ef here there e₁ e₂ =
+    let F = formatAt a in
+    let tag = tagBytes F f in
+    let kept : length once ≡ length bytes = ap length e₁ ∙ length-sets bytes from content in
+    let inside : to + F .tagLength ≤ length once = omega (arith, F .block-parts) in
+    let due-here : tag ≡ tagBytes F (due a stripe m (guard F content)) = ap (tagBytes F) (ef ∙ due-somewhere a stripe m g place ∙ ap (due a stripe m) eg) in
+    let behind : to ≡ from + length content = there ∙ ap (λ (k : ℕ). from + k) (sym long) in
+    e₂ ∙ written-inside F once to f inside ∙ ap₂ (λ (l : List ℕ) (k : ℕ). sets l k tag) e₁ behind ∙ sets-append bytes from content tag
+    ∙ ap₂ (λ (k : ℕ) (l : List ℕ). sets bytes k (content ++ l)) here due-here
 
 -- ---- blocks joined
 
@@ -108,5 +121,5 @@ parts-joined size (suc n) l h =
     ∙ take-append-drop size l
 
 -- two stripes with the same blocks are one
-pub same-blocks : (n : ℕ) (a b : List ℕ) → length a ≡ 520 * n → length b ≡ 520 * n → ((m : ℕ) → m < n → blockOf a m ≡ blockOf b m) → a ≡ b
-same-blocks n a b ha hb h = sym (parts-joined 520 n a ha) ∙ ap joined (table-ext n (blockOf a) (blockOf b) h) ∙ parts-joined 520 n b hb
+pub same-blocks : (F : Format) (n : ℕ) (a b : List ℕ) → length a ≡ (F .blockLength) * n → length b ≡ (F .blockLength) * n → ((m : ℕ) → m < n → blockOf F a m ≡ blockOf F b m) → a ≡ b
+same-blocks F n a b ha hb h = sym (parts-joined (F .blockLength) n a ha) ∙ ap joined (table-ext n (blockOf F a) (blockOf F b) h) ∙ parts-joined (F .blockLength) n b hb

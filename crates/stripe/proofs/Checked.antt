@@ -7,10 +7,10 @@ use Prim.Native.Nat.{ℕ, _+_, _-_, _*_, _≤_}
 use native.Mathlib.Omega.{arith}
 use lib.ListN.{length, take, drop}
 use lib.Seq.{drop-drop}
-use Rattle.crc.specs.Guard.{guard}
+use Rattle.format.specs.Formats.{Format, guard}
 use Rattle.layout.specs.Places.{ownerRefusal}
 use Rattle.layout.specs.declared.Array.{Array}
-use Rattle.tag.specs.Blocks.{dataOf, tagOf}
+use Rattle.tag.specs.Blocks.{formatAt, dataOf, tagOf}
 use Rattle.tag.specs.Tags.{found, tagWithin, due, dueAt, fits, good, checkRefusal, checkNumbers, checkedNumbers}
 use Rattle.tag.specs.declared.Fields.{Fields}
 use Rattle.tag.specs.declared.Checked.{Checked}
@@ -53,27 +53,35 @@ module _ (a : Array) (stripe member : ℕ) (block : List ℕ) (sound : checkRefu
       (λ h. numbers-good x (e ∙ check-good a stripe member block sound .0 h))
 
 -- of a block within its stripe, lent as a part
-pub says-good-at : (a : Array) (stripe member : ℕ) (bytes : List ℕ) → ownerRefusal a stripe member ≡ 0 → 520 * member + 520 ≤ length bytes
-    → (x : Checked) → checkedNumbers x ≡ checkNumbers a stripe member (take (520 * member + 520 - 520 * member) (drop (520 * member) bytes))
-    → saysGood x ≡ good a stripe member (blockOf bytes member)
-says-good-at a stripe member bytes place room x e =
-    says-good a stripe member (blockOf bytes member) (sound-check a stripe member (length (blockOf bytes member)) place (length-span (520 * member) 520 bytes room)) x
-    (e ∙ ap (checkNumbers a stripe member) (lent-span (520 * member) 520 bytes))
+pub says-good-at : (a : Array) (stripe member from size : ℕ) (bytes : List ℕ) → ownerRefusal a stripe member ≡ 0
+    → from ≡ formatAt a .blockLength * member → size ≡ formatAt a .blockLength → formatAt a .blockLength * member + formatAt a .blockLength ≤ length bytes
+    → (x : Checked) → checkedNumbers x ≡ checkNumbers a stripe member (take (from + size - from) (drop from bytes))
+    → saysGood x ≡ good a stripe member (blockOf (formatAt a) bytes member)
+says-good-at a stripe member from size bytes place here same room x e =
+    let F = formatAt a in
+    let lent : take (from + size - from) (drop from bytes) ≡ blockOf F bytes member = lent-span from size bytes ∙ ap₂ (λ (k n : ℕ). span k n bytes) here same in
+    says-good a stripe member (blockOf F bytes member) (sound-check a stripe member (length (blockOf F bytes member)) place (length-span (F .blockLength * member) (F .blockLength) bytes room)) x
+    (e ∙ ap (checkNumbers a stripe member) lent)
 
 -- the tag of a member's block, within its stripe
-tag-in-stripe : (member : ℕ) (bytes : List ℕ) → 520 * member + 520 ≤ length bytes → tagWithin bytes (520 * member + 512) ≡ tagOf (blockOf bytes member)
+tag-in-stripe : (F : Format) (member : ℕ) (bytes : List ℕ) → F .blockLength * member + F .blockLength ≤ length bytes
+    → tagWithin F bytes (F .blockLength * member + F .dataLength) ≡ tagOf F (blockOf F bytes member)
 unfolding tagOf span
-tag-in-stripe member bytes room =
-    tag-inside bytes (520 * member + 512) (omega arith)
-    ∙ sym (drop-take 512 8 (drop (520 * member) bytes) ∙ ap (take 8) (drop-drop 512 (520 * member) bytes))
+tag-in-stripe F member bytes room =
+    let at = F .blockLength * member in
+    tag-inside F bytes (at + F .dataLength) (omega arith)
+    ∙ sym (ap (λ (k : ℕ). drop (F .dataLength) (take k (drop at bytes))) (F .block-parts)
+    ∙ drop-take (F .dataLength) (F .tagLength) (drop at bytes) ∙ ap (take (F .tagLength)) (drop-drop (F .dataLength) at bytes))
 
 -- by the steps of the code: the tag that is found compared with the one due to the guard
-pub good-by-steps : (a : Array) (stripe member known : ℕ) (bytes : List ℕ) → ownerRefusal a stripe member ≡ 0 → 520 * member + 520 ≤ length bytes
-    → known ≡ guard (dataOf (blockOf bytes member)) → (expected : Fields) (tag : List ℕ) (f : Fields) (flag : Bool)
-    → expected ≡ dueAt a stripe member known → tag ≡ tagWithin bytes (520 * member + 512) → f ≡ found tag → flag ≡ fits f expected
-    → flag ≡ good a stripe member (blockOf bytes member)
+pub good-by-steps : (a : Array) (stripe member known at : ℕ) (bytes : List ℕ) → ownerRefusal a stripe member ≡ 0 → formatAt a .blockLength * member + formatAt a .blockLength ≤ length bytes
+    → at ≡ formatAt a .blockLength * member + formatAt a .dataLength
+    → known ≡ guard (formatAt a) (dataOf (formatAt a) (blockOf (formatAt a) bytes member)) → (expected f : Fields) (flag : Bool)
+    → expected ≡ dueAt a stripe member known → f ≡ found (formatAt a) (tagWithin (formatAt a) bytes at) → flag ≡ fits f expected
+    → flag ≡ good a stripe member (blockOf (formatAt a) bytes member)
 unfolding good
-good-by-steps a stripe member known bytes place room right expected tag f flag e t g r =
+good-by-steps a stripe member known at bytes place room here right expected f flag e g r =
+    let F = formatAt a in
     r
-    ∙ ap₂ fits (g ∙ ap found (t ∙ tag-in-stripe member bytes room))
+    ∙ ap₂ fits (g ∙ ap (found F) (ap (tagWithin F bytes) here ∙ tag-in-stripe F member bytes room))
     (e ∙ due-somewhere a stripe member known place ∙ ap (due a stripe member) right)

@@ -9,6 +9,7 @@ use Rattle.layout.specs.Places.{stripeOf}
 use Rattle.layout.specs.Ranges.{SoundStripe}
 use Rattle.layout.specs.declared.Array.{Array}
 use Rattle.layout.proofs.Ranges.{sound-stripe}
+use Rattle.tag.specs.Blocks.{formatAt}
 use Rattle.stripe.specs.Jobs.{sealed, updateRefusal, updateBytes}
 use Rattle.stripe.specs.Verdicts.{scrubNumbers, scrubRefusal, clean}
 use Rattle.stripe.proofs.Scrubs.{scrub-clean, sound-scrub}
@@ -16,7 +17,7 @@ use Rattle.stripe.proofs.Seals.{length-sealed}
 use Rattle.stripe.proofs.Sealed.{sealed-good, sealed-parity}
 use Rattle.stripe.proofs.Updated.{update-keeps-length, update-keeps-clean}
 
-pub sealed-clean : (a : Array) (stripe : ℕ) (content : List ℕ) → SoundStripe a stripe → length content ≡ 512 * dataMembers a → a .volume < 256
+pub sealed-clean : (a : Array) (stripe : ℕ) (content : List ℕ) → SoundStripe a stripe → length content ≡ (formatAt a .dataLength) * dataMembers a → a .volume < 256
     → scrubNumbers a stripe (sealed a stripe content) ≡ clean
 sealed-clean a stripe content sound long small =
     scrub-clean a stripe (sealed a stripe content) (sound-scrub a stripe (length (sealed a stripe content)) (sound-stripe a stripe sound) (length-sealed a stripe content sound long)) .1

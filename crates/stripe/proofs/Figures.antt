@@ -3,7 +3,8 @@
 use mathlib.Core.Path.{_≡_, refl}
 use mathlib.Core.List.{List, [], _∷_}
 use Prim.Native.Nat.{ℕ}
-use Rattle.layout.specs.Arrays.{arrayRefusal, stripeRefusal, blockRefusal}
+use Rattle.format.specs.Methods.{formatOf}
+use Rattle.layout.specs.Arrays.{arrayOf, arrayRefusal, stripeRefusal, blockRefusal}
 use Rattle.layout.specs.Places.{ownerRefusal}
 use Rattle.layout.specs.declared.Array.{Array}
 use Rattle.stripe.specs.Tables.{table, joined, span, part}
@@ -31,29 +32,29 @@ read-names = (refl, refl, refl)
 -- ---- refusals: first every number that is handed in is wrong, then one after the other is mended
 
 abbrev array : ℕ → ℕ → Array
-array members stripes = record { members = members; stripes = stripes; volume = 7 }
+array members stripes = arrayOf members stripes 7
 
 pub seal-in-order : (sealRefusal (array 2 0) 1 0 0 ≡ 1) × (sealRefusal (array 3 0) 1 0 0 ≡ 2) × (sealRefusal (array 3 1) 1 0 0 ≡ 3)
     × (sealRefusal (array 3 1) 0 0 0 ≡ 6) × (sealRefusal (array 3 1) 0 1024 0 ≡ 6) × (sealRefusal (array 3 1) 0 1024 1560 ≡ 0)
-unfolding sealRefusal stripeRefusal arrayRefusal
+unfolding formatOf sealRefusal stripeRefusal arrayRefusal
 seal-in-order = (refl, refl, refl, refl, refl, refl)
 
 pub read-in-order : (readRefusal (array 2 0) 2 [] 0 ≡ 1) × (readRefusal (array 3 0) 2 [] 0 ≡ 2) × (readRefusal (array 3 1) 2 [] 0 ≡ 3)
     × (readRefusal (array 3 1) 0 [] 0 ≡ 6) × (readRefusal (array 3 1) 0 [] 512 ≡ 6)
-unfolding readRefusal serveRefusal blockRefusal arrayRefusal
+unfolding formatOf readRefusal serveRefusal blockRefusal arrayRefusal
 read-in-order = (refl, refl, refl, refl, refl)
 
 pub rebuild-in-order : (rebuildRefusal (array 2 0) 1 3 [] ≡ 1) × (rebuildRefusal (array 3 0) 1 3 [] ≡ 2) × (rebuildRefusal (array 3 1) 1 3 [] ≡ 3)
     × (rebuildRefusal (array 3 1) 0 3 [] ≡ 5) × (rebuildRefusal (array 3 1) 0 0 [] ≡ 6)
-unfolding rebuildRefusal ownerRefusal stripeRefusal arrayRefusal
+unfolding formatOf rebuildRefusal ownerRefusal stripeRefusal arrayRefusal
 rebuild-in-order = (refl, refl, refl, refl, refl)
 
 pub update-in-order : (updateRefusal (array 2 0) 2 0 [] ≡ 1) × (updateRefusal (array 3 0) 2 0 [] ≡ 2) × (updateRefusal (array 3 1) 2 0 [] ≡ 3)
     × (updateRefusal (array 3 1) 0 0 [] ≡ 6) × (updateRefusal (array 3 1) 0 512 [] ≡ 6)
-unfolding updateRefusal replaceRefusal blockRefusal arrayRefusal
+unfolding formatOf updateRefusal replaceRefusal blockRefusal arrayRefusal
 update-in-order = (refl, refl, refl, refl, refl)
 
 pub scrub-in-order : (scrubRefusal (array 2 0) 1 0 ≡ 1) × (scrubRefusal (array 3 0) 1 0 ≡ 2) × (scrubRefusal (array 3 1) 1 0 ≡ 3)
     × (scrubRefusal (array 3 1) 0 0 ≡ 6) × (scrubRefusal (array 3 1) 0 1560 ≡ 0)
-unfolding scrubRefusal stripeRefusal arrayRefusal
+unfolding formatOf scrubRefusal stripeRefusal arrayRefusal
 scrub-in-order = (refl, refl, refl, refl, refl)

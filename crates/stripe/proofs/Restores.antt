@@ -17,7 +17,8 @@ use Rattle.layout.specs.Places.{stripeOf, memberOf, ownerRefusal}
 use Rattle.layout.specs.declared.Array.{Array}
 use Rattle.layout.proofs.Ranges.{place-sound}
 use Rattle.layout.proofs.Bijection.{place-refusal}
-use Rattle.tag.specs.Blocks.{dataOf}
+use Rattle.format.proofs.Sizes.{times-next}
+use Rattle.tag.specs.Blocks.{formatAt, dataOf}
 use Rattle.tag.specs.Tags.{good, tagged}
 use Rattle.tag.proofs.Tagged.{length-tagged, data-of-tagged, tagged-good, good-tagged}
 use Rattle.stripe.specs.Stripes.{stripeLength, blockOf, othersData, othersGood, Parity}
@@ -34,89 +35,89 @@ module _ (a : Array) (stripe member : ℕ) (bytes : List ℕ) (place : ownerRefu
   here = place-sound a stripe member place .here
 
   made : List ℕ
-  made = tagged a stripe member (othersData (a .members) member bytes)
+  made = tagged a stripe member (othersData (formatAt a) (a .members) member bytes)
 
-  length-made : length made ≡ 520
+  length-made : length made ≡ (formatAt a .blockLength)
   unfolding made
-  length-made = length-tagged a stripe member (othersData (a .members) member bytes) (length-othersData (a .members) member bytes)
+  length-made = length-tagged a stripe member (othersData (formatAt a) (a .members) member bytes) (length-othersData (formatAt a) (a .members) member bytes)
 
   -- the block that is made, and the others
-  pub rebuilt-block : blockOf (rebuilt a stripe member bytes) member ≡ tagged a stripe member (othersData (a .members) member bytes)
+  pub rebuilt-block : blockOf (formatAt a) (rebuilt a stripe member bytes) member ≡ tagged a stripe member (othersData (formatAt a) (a .members) member bytes)
   unfolding rebuilt made
-  rebuilt-block = block-written bytes member made length-made (omega (arith, here))
+  rebuilt-block = block-written (formatAt a) bytes member made length-made (omega (arith, times-next (formatAt a .blockLength) member (a .members) here))
 
-  pub rebuilt-data : dataOf (blockOf (rebuilt a stripe member bytes) member) ≡ othersData (a .members) member bytes
-  rebuilt-data = ap dataOf rebuilt-block ∙ data-of-tagged a stripe member (othersData (a .members) member bytes) (length-othersData (a .members) member bytes)
+  pub rebuilt-data : dataOf (formatAt a) (blockOf (formatAt a) (rebuilt a stripe member bytes) member) ≡ othersData (formatAt a) (a .members) member bytes
+  rebuilt-data = ap (dataOf (formatAt a)) rebuilt-block ∙ data-of-tagged a stripe member (othersData (formatAt a) (a .members) member bytes) (length-othersData (formatAt a) (a .members) member bytes)
 
-  pub rebuilt-others : (k : ℕ) → k ≢ member → blockOf (rebuilt a stripe member bytes) k ≡ blockOf bytes k
+  pub rebuilt-others : (k : ℕ) → k ≢ member → blockOf (formatAt a) (rebuilt a stripe member bytes) k ≡ blockOf (formatAt a) bytes k
   unfolding rebuilt made
-  rebuilt-others k ne = block-kept bytes member k made length-made ne
+  rebuilt-others k ne = block-kept (formatAt a) bytes member k made length-made ne
 
   pub length-rebuilt : length (rebuilt a stripe member bytes) ≡ stripeLength a
   unfolding rebuilt
-  length-rebuilt = length-sets bytes (520 * member) (tagged a stripe member (othersData (a .members) member bytes)) ∙ long
+  length-rebuilt = length-sets bytes ((formatAt a .blockLength) * member) (tagged a stripe member (othersData (formatAt a) (a .members) member bytes)) ∙ long
 
   -- its tag fits, whatever the others hold
-  pub rebuilt-good : a .volume < 256 → good a stripe member (blockOf (rebuilt a stripe member bytes) member) ≡ true
+  pub rebuilt-good : a .volume < 256 → good a stripe member (blockOf (formatAt a) (rebuilt a stripe member bytes) member) ≡ true
   rebuilt-good small =
       ap (good a stripe member) rebuilt-block
-      ∙ tagged-good a stripe member (othersData (a .members) member bytes) (length-othersData (a .members) member bytes) place small
+      ∙ tagged-good a stripe member (othersData (formatAt a) (a .members) member bytes) (length-othersData (formatAt a) (a .members) member bytes) place small
 
 -- a stripe before a loss, and after it: anything may stand at the lost member
 module _ (a : Array) (stripe member : ℕ) (before damaged : List ℕ) (place : ownerRefusal a stripe member ≡ 0)
     (long : length before ≡ stripeLength a) (as-long : length damaged ≡ stripeLength a)
-    (kept : (k : ℕ) → k < a .members → k ≢ member → blockOf damaged k ≡ blockOf before k)
-    (good-before : (k : ℕ) → k < a .members → k ≢ member → good a stripe k (blockOf before k) ≡ true) where
+    (kept : (k : ℕ) → k < a .members → k ≢ member → blockOf (formatAt a) damaged k ≡ blockOf (formatAt a) before k)
+    (good-before : (k : ℕ) → k < a .members → k ≢ member → good a stripe k (blockOf (formatAt a) before k) ≡ true) where
   pub sources-good : othersGood a stripe member damaged ≡ true
   sources-good = good-others a stripe member damaged (λ k h ne. ap (good a stripe k) (kept k h ne) ∙ good-before k h ne)
 
   pub rebuild-accepted : rebuildRefusal a stripe member damaged ≡ 0
   rebuild-accepted = rebuild-others a stripe member damaged place as-long true sources-good
 
-  same-others : othersData (a .members) member damaged ≡ othersData (a .members) member before
-  same-others = others-ext (a .members) member damaged before (λ k h ne. ap dataOf (kept k h ne))
+  same-others : othersData (formatAt a) (a .members) member damaged ≡ othersData (formatAt a) (a .members) member before
+  same-others = others-ext (formatAt a) (a .members) member damaged before (λ k h ne. ap (dataOf (formatAt a)) (kept k h ne))
 
   -- the others' data are the lost ones exactly where parity was right
-  pub lost-data : Parity (a .members) before → othersData (a .members) member damaged ≡ dataOf (blockOf before member)
-  lost-data parity = same-others ∙ others-are-one (a .members) member before (place-sound a stripe member place .here) (omega arith) parity
+  pub lost-data : Parity (formatAt a) (a .members) before → othersData (formatAt a) (a .members) member damaged ≡ dataOf (formatAt a) (blockOf (formatAt a) before member)
+  lost-data parity = same-others ∙ others-are-one (formatAt a) (a .members) member before (place-sound a stripe member place .here) (omega arith) parity
 
-  pub torn-data : (Parity (a .members) before → ⊥) → othersData (a .members) member damaged ≢ dataOf (blockOf before member)
-  torn-data torn e = torn (one-is-others (a .members) member before (place-sound a stripe member place .here) (sym same-others ∙ e))
+  pub torn-data : (Parity (formatAt a) (a .members) before → ⊥) → othersData (formatAt a) (a .members) member damaged ≢ dataOf (formatAt a) (blockOf (formatAt a) before member)
+  torn-data torn e = torn (one-is-others (formatAt a) (a .members) member before (place-sound a stripe member place .here) (sym same-others ∙ e))
 
   -- the rebuilt stripe is the one before the loss
-  pub rebuild-restores : Parity (a .members) before → Bytes (blockOf before member) → good a stripe member (blockOf before member) ≡ true
+  pub rebuild-restores : Parity (formatAt a) (a .members) before → Bytes (blockOf (formatAt a) before member) → good a stripe member (blockOf (formatAt a) before member) ≡ true
       → rebuildBytes a stripe member damaged ≡ before
   rebuild-restores parity bytes was-good =
       sym (rebuild-done a stripe member damaged rebuild-accepted)
-      ∙ same-blocks (a .members) (rebuilt a stripe member damaged) before (length-rebuilt a stripe member damaged place as-long) long (λ k h. at k h (ℕ-discrete k member))
+      ∙ same-blocks (formatAt a) (a .members) (rebuilt a stripe member damaged) before (length-rebuilt a stripe member damaged place as-long) long (λ k h. at k h (ℕ-discrete k member))
     where
-      size : length (blockOf before member) ≡ 520
-      size = length-span (520 * member) 520 before (omega (arith, place-sound a stripe member place .here))
+      size : length (blockOf (formatAt a) before member) ≡ (formatAt a .blockLength)
+      size = length-span ((formatAt a .blockLength) * member) (formatAt a .blockLength) before (omega (arith, times-next (formatAt a .blockLength) member (a .members) (place-sound a stripe member place .here)))
 
-      at : (k : ℕ) → k < a .members → Dec (k ≡ member) → blockOf (rebuilt a stripe member damaged) k ≡ blockOf before k
+      at : (k : ℕ) → k < a .members → Dec (k ≡ member) → blockOf (formatAt a) (rebuilt a stripe member damaged) k ≡ blockOf (formatAt a) before k
       at k h (yes e) =
           rw e
           (rebuilt-block a stripe member damaged place as-long ∙ ap (tagged a stripe member) (lost-data parity)
-          ∙ sym (good-tagged a stripe member (blockOf before member) size bytes was-good))
+          ∙ sym (good-tagged a stripe member (blockOf (formatAt a) before member) size bytes was-good))
       at k h (no ne) = rebuilt-others a stripe member damaged place as-long k ne ∙ kept k h ne
 
   -- and of a torn one the rebuilt block is another, though it is good
-  pub torn-rebuilds-another : (Parity (a .members) before → ⊥) → a .volume < 256
-      → (dataOf (blockOf (rebuildBytes a stripe member damaged) member) ≢ dataOf (blockOf before member))
-      × (good a stripe member (blockOf (rebuildBytes a stripe member damaged) member) ≡ true)
+  pub torn-rebuilds-another : (Parity (formatAt a) (a .members) before → ⊥) → a .volume < 256
+      → (dataOf (formatAt a) (blockOf (formatAt a) (rebuildBytes a stripe member damaged) member) ≢ dataOf (formatAt a) (blockOf (formatAt a) before member))
+      × (good a stripe member (blockOf (formatAt a) (rebuildBytes a stripe member damaged) member) ≡ true)
   torn-rebuilds-another torn small =
       let done = rebuild-done a stripe member damaged rebuild-accepted in (
-        λ e. torn-data torn (sym (rebuilt-data a stripe member damaged place as-long) ∙ ap (λ (x : List ℕ). dataOf (blockOf x member)) done ∙ e),
-        ap (λ (x : List ℕ). good a stripe member (blockOf x member)) (sym done) ∙ rebuilt-good a stripe member damaged place as-long small,
+        λ e. torn-data torn (sym (rebuilt-data a stripe member damaged place as-long) ∙ ap (λ (x : List ℕ). dataOf (formatAt a) (blockOf (formatAt a) x member)) done ∙ e),
+        ap (λ (x : List ℕ). good a stripe member (blockOf (formatAt a) x member)) (sym done) ∙ rebuilt-good a stripe member damaged place as-long small,
       )
 
 -- a read whose block was lost serves the lost data too, where parity was right and the others are good
 pub read-restores : (a : Array) (block : ℕ) (before damaged out : List ℕ) → blockRefusal a block ≡ 0
-    → length before ≡ stripeLength a → length damaged ≡ stripeLength a → length out ≡ 512
-    → ((k : ℕ) → k < a .members → k ≢ memberOf a block → blockOf damaged k ≡ blockOf before k)
-    → ((k : ℕ) → k < a .members → k ≢ memberOf a block → good a (stripeOf a block) k (blockOf before k) ≡ true)
-    → good a (stripeOf a block) (memberOf a block) (blockOf damaged (memberOf a block)) ≡ false → Parity (a .members) before
-    → Reads a block damaged out (1 ∷ 0 ∷ 1 ∷ []) (dataOf (blockOf before (memberOf a block)))
+    → length before ≡ stripeLength a → length damaged ≡ stripeLength a → length out ≡ (formatAt a .dataLength)
+    → ((k : ℕ) → k < a .members → k ≢ memberOf a block → blockOf (formatAt a) damaged k ≡ blockOf (formatAt a) before k)
+    → ((k : ℕ) → k < a .members → k ≢ memberOf a block → good a (stripeOf a block) k (blockOf (formatAt a) before k) ≡ true)
+    → good a (stripeOf a block) (memberOf a block) (blockOf (formatAt a) damaged (memberOf a block)) ≡ false → Parity (formatAt a) (a .members) before
+    → Reads a block damaged out (1 ∷ 0 ∷ 1 ∷ []) (dataOf (formatAt a) (blockOf (formatAt a) before (memberOf a block)))
 read-restores a block before damaged out taken long as-long room kept good-before lost parity =
     let s = stripeOf a block in
     let m = memberOf a block in

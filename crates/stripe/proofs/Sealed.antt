@@ -15,7 +15,7 @@ use Rattle.layout.proofs.Ranges.{sound-place, sound-block}
 use Rattle.layout.proofs.Members.{parity-below, member-below, index-of-member}
 use Rattle.layout.proofs.Blocks.{index-in-stripe, stripe-in-array}
 use Rattle.layout.proofs.Bijection.{parity-no-block}
-use Rattle.tag.specs.Blocks.{dataOf}
+use Rattle.tag.specs.Blocks.{formatAt, dataOf}
 use Rattle.tag.specs.Tags.{good}
 use Rattle.tag.proofs.Tagged.{data-of-tagged, tagged-good}
 use Rattle.stripe.specs.Tables.{part}
@@ -25,35 +25,35 @@ use Rattle.stripe.proofs.Seals.{length-sealed, length-sealed-data, bloc
 use Rattle.stripe.proofs.Parity.{one-is-others}
 use Rattle.stripe.proofs.Served.{read-stored}
 
-module _ (a : Array) (stripe : ℕ) (content : List ℕ) (sound : SoundStripe a stripe) (long : length content ≡ 512 * dataMembers a) where
-  pub sealed-good : a .volume < 256 → (m : ℕ) → m < a .members → good a stripe m (blockOf (sealed a stripe content) m) ≡ true
+module _ (a : Array) (stripe : ℕ) (content : List ℕ) (sound : SoundStripe a stripe) (long : length content ≡ (formatAt a .dataLength) * dataMembers a) where
+  pub sealed-good : a .volume < 256 → (m : ℕ) → m < a .members → good a stripe m (blockOf (formatAt a) (sealed a stripe content) m) ≡ true
   sealed-good small m h =
       ap (good a stripe m) (block-of-sealed a stripe content sound long m h)
       ∙ tagged-good a stripe m (sealedData a stripe content m) (length-sealed-data a stripe content sound long m h) (sound-place a stripe m (record { stripe = sound; here = h })) small
 
-  pub sealed-data : (m : ℕ) → m < a .members → dataOf (blockOf (sealed a stripe content) m) ≡ sealedData a stripe content m
+  pub sealed-data : (m : ℕ) → m < a .members → dataOf (formatAt a) (blockOf (formatAt a) (sealed a stripe content) m) ≡ sealedData a stripe content m
   sealed-data m h =
-      ap dataOf (block-of-sealed a stripe content sound long m h)
+      ap (dataOf (formatAt a)) (block-of-sealed a stripe content sound long m h)
       ∙ data-of-tagged a stripe m (sealedData a stripe content m) (length-sealed-data a stripe content sound long m h)
 
-  pub sealed-parity : Parity (a .members) (sealed a stripe content)
+  pub sealed-parity : Parity (formatAt a) (a .members) (sealed a stripe content)
   sealed-parity =
       let p = parityMember a stripe in
       let below : p < a .members = parity-below a stripe (omega (arith, sound .array .few)) in
-      one-is-others (a .members) p (sealed a stripe content) below
+      one-is-others (formatAt a) (a .members) p (sealed a stripe content) below
       (parity-by-data a stripe content sound long (sealed a stripe content) (λ m h ne. sealed-data m h ∙ rw (ne-eqb m p ne)) ∙ sym (sealed-data p below ∙ rw (eq-eqb p p refl)))
 
 -- a block's data are its part of what was sealed
-pub sealed-block : (a : Array) (block : ℕ) (content : List ℕ) (sound : SoundBlock a block) (whole : SoundStripe a (stripeOf a block)) (long : length content ≡ 512 * dataMembers a)
-    → dataOf (blockOf (sealed a (stripeOf a block) content) (memberOf a block)) ≡ part 512 content (indexOf a block)
+pub sealed-block : (a : Array) (block : ℕ) (content : List ℕ) (sound : SoundBlock a block) (whole : SoundStripe a (stripeOf a block)) (long : length content ≡ (formatAt a .dataLength) * dataMembers a)
+    → dataOf (formatAt a) (blockOf (formatAt a) (sealed a (stripeOf a block) content) (memberOf a block)) ≡ part (formatAt a .dataLength) content (indexOf a block)
 sealed-block a block content sound whole long =
     let s = stripeOf a block in
     sealed-data a s content whole long (memberOf a block) (member-below a s (indexOf a block) (index-in-stripe a block (sound .array)))
-    ∙ rw (ne-eqb (memberOf a block) (parityMember a s) (parity-no-block a block)) (ap (part 512 content) (index-of-member a s (indexOf a block)))
+    ∙ rw (ne-eqb (memberOf a block) (parityMember a s) (parity-no-block a block)) (ap (part (formatAt a .dataLength) content) (index-of-member a s (indexOf a block)))
 
 -- and reads back as stored, equal to it, out of any stripe that holds it sealed
-pub sealed-reads : (a : Array) (block : ℕ) (content out : List ℕ) → SoundBlock a block → a .volume < 256 → length content ≡ 512 * dataMembers a → length out ≡ 512
-    → Reads a block (sealed a (stripeOf a block) content) out (1 ∷ 0 ∷ 0 ∷ []) (part 512 content (indexOf a block))
+pub sealed-reads : (a : Array) (block : ℕ) (content out : List ℕ) → SoundBlock a block → a .volume < 256 → length content ≡ (formatAt a .dataLength) * dataMembers a → length out ≡ (formatAt a .dataLength)
+    → Reads a block (sealed a (stripeOf a block) content) out (1 ∷ 0 ∷ 0 ∷ []) (part (formatAt a .dataLength) content (indexOf a block))
 sealed-reads a block content out sound small long room =
     let s = stripeOf a block in
     let whole : SoundStripe a s = record { array = sound .array; here = stripe-in-array a block sound } in

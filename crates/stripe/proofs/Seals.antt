@@ -15,8 +15,10 @@ use lib.ListN.{length, take}
 use lib.Seq.{length-sets}
 use Rattle.xor.specs.Xors.{combination}
 use Rattle.xor.proofs.Combination.{length-combination}
-use Rattle.crc.specs.Guard.{guard}
-use Rattle.crc.specs.Blocks.{guardsOf}
+use lib.Bits.{bitXor}
+use Rattle.format.specs.Formats.{guard, spare, guardsOf}
+use Rattle.format.proofs.Laws.{combines}
+use Rattle.format.proofs.Sizes.{times-next}
 use Rattle.layout.specs.Answers.{refuse, after}
 use Rattle.layout.specs.Arrays.{dataMembers, stripeRefusal}
 use Rattle.layout.specs.Places.{parityMember, memberAt, indexAt, isParity}
@@ -24,7 +26,7 @@ use Rattle.layout.specs.Ranges.{SoundStripe}
 use Rattle.layout.specs.declared.Array.{Array}
 use Rattle.layout.proofs.Answers.{after-refused, refuse-none}
 use Rattle.layout.proofs.Members.{parity-below, member-below, member-not-parity, index-of-member, index-below}
-use Rattle.tag.specs.Blocks.{dataOf}
+use Rattle.tag.specs.Blocks.{formatAt, dataOf}
 use Rattle.tag.specs.Tags.{tagged}
 use Rattle.tag.proofs.Tagged.{length-tagged, data-of-tagged}
 use Rattle.verdict.specs.Verdicts.{combinedGuards}
@@ -58,53 +60,53 @@ others-table {A} (suc d) (suc p) f h =
 -- the blocks below k are written, those from k on are as they were
 pub record Written (a : Array) (stripe : ℕ) (content old : List ℕ) (k : ℕ) (bytes : List ℕ) : Type 0 where
   pub same-long : length bytes ≡ length old
-  pub below : (m : ℕ) → m < k → blockOf bytes m ≡ cond (isParity a stripe m) (blockOf old m) (dataBlock a stripe content m)
-  pub above : (m : ℕ) → k ≤ m → blockOf bytes m ≡ blockOf old m
+  pub below : (m : ℕ) → m < k → blockOf (formatAt a) bytes m ≡ cond (isParity a stripe m) (blockOf (formatAt a) old m) (dataBlock a stripe content m)
+  pub above : (m : ℕ) → k ≤ m → blockOf (formatAt a) bytes m ≡ blockOf (formatAt a) old m
 
-module _ (a : Array) (stripe : ℕ) (content : List ℕ) (sound : SoundStripe a stripe) (long : length content ≡ 512 * dataMembers a) where
-  enough : (index : ℕ) → index < dataMembers a → length (part 512 content index) ≡ 512
-  enough index h = length-span (512 * index) 512 content (omega arith)
+module _ (a : Array) (stripe : ℕ) (content : List ℕ) (sound : SoundStripe a stripe) (long : length content ≡ (formatAt a .dataLength) * dataMembers a) where
+  enough : (index : ℕ) → index < dataMembers a → length (part (formatAt a .dataLength) content index) ≡ (formatAt a .dataLength)
+  enough index h = length-span ((formatAt a .dataLength) * index) (formatAt a .dataLength) content (omega (arith, times-next (formatAt a .dataLength) index (dataMembers a) h))
 
-  pub length-data-block : (m : ℕ) → m < a .members → m ≢ parityMember a stripe → length (dataBlock a stripe content m) ≡ 520
+  pub length-data-block : (m : ℕ) → m < a .members → m ≢ parityMember a stripe → length (dataBlock a stripe content m) ≡ (formatAt a .blockLength)
   length-data-block m h ne =
-      length-tagged a stripe m (part 512 content (indexAt a stripe m)) (enough (indexAt a stripe m) (index-below a stripe m h ne))
+      length-tagged a stripe m (part (formatAt a .dataLength) content (indexAt a stripe m)) (enough (indexAt a stripe m) (index-below a stripe m h ne))
 
   -- where every data member has its part of the data, the others of the parity combine to the parity
-  pub parity-by-data : (bytes : List ℕ) → ((m : ℕ) → m < a .members → m ≢ parityMember a stripe → dataOf (blockOf bytes m) ≡ part 512 content (indexAt a stripe m))
-      → othersData (a .members) (parityMember a stripe) bytes ≡ parityOf a content
+  pub parity-by-data : (bytes : List ℕ) → ((m : ℕ) → m < a .members → m ≢ parityMember a stripe → dataOf (formatAt a) (blockOf (formatAt a) bytes m) ≡ part (formatAt a .dataLength) content (indexAt a stripe m))
+      → othersData (formatAt a) (a .members) (parityMember a stripe) bytes ≡ parityOf a content
   unfolding othersData memberAt
-  parity-by-data bytes h = ap (combination 512) (split ∙ table-ext (dataMembers a) (λ i. dataOf (blockOf bytes (memberAt a stripe i))) (part 512 content) each)
+  parity-by-data bytes h = ap (combination (formatAt a .dataLength)) (split ∙ table-ext (dataMembers a) (λ i. dataOf (formatAt a) (blockOf (formatAt a) bytes (memberAt a stripe i))) (part (formatAt a .dataLength) content) each)
     where
       n-is : suc (dataMembers a) ≡ a .members
       n-is = omega (arith, sound .array .few)
 
-      split : others (parityMember a stripe) (memberData (a .members) bytes) ≡ table (dataMembers a) (λ i. dataOf (blockOf bytes (memberAt a stripe i)))
+      split : others (parityMember a stripe) (memberData (formatAt a) (a .members) bytes) ≡ table (dataMembers a) (λ i. dataOf (formatAt a) (blockOf (formatAt a) bytes (memberAt a stripe i)))
       split =
-          ap (λ (n : ℕ). others (parityMember a stripe) (memberData n bytes)) (sym n-is)
-          ∙ others-table (dataMembers a) (parityMember a stripe) (λ m. dataOf (blockOf bytes m)) (rw n-is (parity-below a stripe (omega (arith, sound .array .few))))
+          ap (λ (n : ℕ). others (parityMember a stripe) (memberData (formatAt a) n bytes)) (sym n-is)
+          ∙ others-table (dataMembers a) (parityMember a stripe) (λ m. dataOf (formatAt a) (blockOf (formatAt a) bytes m)) (rw n-is (parity-below a stripe (omega (arith, sound .array .few))))
 
-      each : (i : ℕ) → i < dataMembers a → dataOf (blockOf bytes (memberAt a stripe i)) ≡ part 512 content i
-      each i l = h (memberAt a stripe i) (member-below a stripe i l) (member-not-parity a stripe i) ∙ ap (part 512 content) (index-of-member a stripe i)
+      each : (i : ℕ) → i < dataMembers a → dataOf (formatAt a) (blockOf (formatAt a) bytes (memberAt a stripe i)) ≡ part (formatAt a .dataLength) content i
+      each i l = h (memberAt a stripe i) (member-below a stripe i l) (member-not-parity a stripe i) ∙ ap (part (formatAt a .dataLength) content) (index-of-member a stripe i)
 
   -- ---- the sealed stripe, block by block
 
-  pub length-sealed-data : (m : ℕ) → m < a .members → length (sealedData a stripe content m) ≡ 512
+  pub length-sealed-data : (m : ℕ) → m < a .members → length (sealedData a stripe content m) ≡ (formatAt a .dataLength)
   length-sealed-data m h = go (ℕ-discrete m (parityMember a stripe))
     where
-      go : Dec (m ≡ parityMember a stripe) → length (sealedData a stripe content m) ≡ 512
-      go (yes p) = rw (eq-eqb m (parityMember a stripe) p) (length-combination 512 (table (dataMembers a) (part 512 content)))
+      go : Dec (m ≡ parityMember a stripe) → length (sealedData a stripe content m) ≡ (formatAt a .dataLength)
+      go (yes p) = rw (eq-eqb m (parityMember a stripe) p) (length-combination (formatAt a .dataLength) (table (dataMembers a) (part (formatAt a .dataLength) content)))
       go (no p) = rw (ne-eqb m (parityMember a stripe) p) (enough (indexAt a stripe m) (index-below a stripe m h p))
 
-  length-sealed-block : (m : ℕ) → m < a .members → length (tagged a stripe m (sealedData a stripe content m)) ≡ 520
+  length-sealed-block : (m : ℕ) → m < a .members → length (tagged a stripe m (sealedData a stripe content m)) ≡ (formatAt a .blockLength)
   length-sealed-block m h = length-tagged a stripe m (sealedData a stripe content m) (length-sealed-data m h)
 
   pub length-sealed : length (sealed a stripe content) ≡ stripeLength a
   unfolding sealed
-  length-sealed = length-joined 520 (a .members) (λ m. tagged a stripe m (sealedData a stripe content m)) length-sealed-block
+  length-sealed = length-joined (formatAt a .blockLength) (a .members) (λ m. tagged a stripe m (sealedData a stripe content m)) length-sealed-block
 
-  pub block-of-sealed : (m : ℕ) → m < a .members → blockOf (sealed a stripe content) m ≡ tagged a stripe m (sealedData a stripe content m)
+  pub block-of-sealed : (m : ℕ) → m < a .members → blockOf (formatAt a) (sealed a stripe content) m ≡ tagged a stripe m (sealedData a stripe content m)
   unfolding sealed
-  block-of-sealed m h = span-joined 520 (a .members) (λ m. tagged a stripe m (sealedData a stripe content m)) m length-sealed-block h
+  block-of-sealed m h = span-joined (formatAt a .blockLength) (a .members) (λ m. tagged a stripe m (sealedData a stripe content m)) m length-sealed-block h
 
   -- ---- the loop over the members
 
@@ -113,81 +115,85 @@ module _ (a : Array) (stripe : ℕ) (content : List ℕ) (sound : SoundStripe a 
     none-written = record { same-long = refl; below = λ m h. absurd (not-suc-le-zero h); above = λ m h. refl }
 
     pub one-written : (k : ℕ) (bytes next : List ℕ) → k < a .members → Written a stripe content old k bytes
-        → next ≡ cond (isParity a stripe k) bytes (withBlock bytes k (dataBlock a stripe content k)) → Written a stripe content old (k + 1) next
+        → next ≡ cond (isParity a stripe k) bytes (withBlock (formatAt a) bytes k (dataBlock a stripe content k)) → Written a stripe content old (k + 1) next
     one-written k bytes next h w e = go (ℕ-discrete k (parityMember a stripe))
       where
         -- what is left to show: the block at k, and that no other has changed
-        from-parts : length next ≡ length old → blockOf next k ≡ cond (isParity a stripe k) (blockOf old k) (dataBlock a stripe content k)
-            → ((m : ℕ) → m ≢ k → blockOf next m ≡ blockOf bytes m) → Written a stripe content old (k + 1) next
+        from-parts : length next ≡ length old → blockOf (formatAt a) next k ≡ cond (isParity a stripe k) (blockOf (formatAt a) old k) (dataBlock a stripe content k)
+            → ((m : ℕ) → m ≢ k → blockOf (formatAt a) next m ≡ blockOf (formatAt a) bytes m) → Written a stripe content old (k + 1) next
         from-parts size mine kept = record { same-long = size; below = λ m l. at m l (ℕ-discrete m k); above = λ m l. kept m (λ q. omega arith) ∙ w .above m (omega arith) }
           where
-            at : (m : ℕ) → m < k + 1 → Dec (m ≡ k) → blockOf next m ≡ cond (isParity a stripe m) (blockOf old m) (dataBlock a stripe content m)
+            at : (m : ℕ) → m < k + 1 → Dec (m ≡ k) → blockOf (formatAt a) next m ≡ cond (isParity a stripe m) (blockOf (formatAt a) old m) (dataBlock a stripe content m)
             at m l (yes q) = rw q mine
             at m l (no q) = kept m q ∙ w .below m (omega arith)
 
         go : Dec (k ≡ parityMember a stripe) → Written a stripe content old (k + 1) next
         go (yes p) =
             let same : next ≡ bytes = e ∙ rw (eq-eqb k (parityMember a stripe) p) in
-            from-parts (ap length same ∙ w .same-long) (rw (eq-eqb k (parityMember a stripe) p) (ap (λ (l : List ℕ). blockOf l k) same ∙ w .above k (omega arith)))
-            (λ m q. ap (λ (l : List ℕ). blockOf l m) same)
+            from-parts (ap length same ∙ w .same-long) (rw (eq-eqb k (parityMember a stripe) p) (ap (λ (l : List ℕ). blockOf (formatAt a) l k) same ∙ w .above k (omega arith)))
+            (λ m q. ap (λ (l : List ℕ). blockOf (formatAt a) l m) same)
         go (no p) =
             let new = dataBlock a stripe content k in
-            let made : next ≡ withBlock bytes k new = e ∙ rw (ne-eqb k (parityMember a stripe) p) in
-            let size : length new ≡ 520 = length-data-block k h p in
-            from-parts (ap length made ∙ length-sets bytes (520 * k) new ∙ w .same-long)
-            (rw (ne-eqb k (parityMember a stripe) p) (ap (λ (l : List ℕ). blockOf l k) made ∙ block-written bytes k new size (omega (arith, w .same-long))))
-            (λ m q. ap (λ (l : List ℕ). blockOf l m) made ∙ block-kept bytes k m new size q)
+            let made : next ≡ withBlock (formatAt a) bytes k new = e ∙ rw (ne-eqb k (parityMember a stripe) p) in
+            let size : length new ≡ (formatAt a .blockLength) = length-data-block k h p in
+            from-parts (ap length made ∙ length-sets bytes ((formatAt a .blockLength) * k) new ∙ w .same-long)
+            (rw (ne-eqb k (parityMember a stripe) p) (ap (λ (l : List ℕ). blockOf (formatAt a) l k) made ∙ block-written (formatAt a) bytes k new size (omega (arith, w .same-long, times-next (formatAt a .blockLength) k (a .members) h))))
+            (λ m q. ap (λ (l : List ℕ). blockOf (formatAt a) l m) made ∙ block-kept (formatAt a) bytes k m new size q)
 
     -- a member's block after all of them
     abbrev target : ℕ → List ℕ
-    target m = cond (isParity a stripe m) (blockOf old m) (dataBlock a stripe content m)
+    target m = cond (isParity a stripe m) (blockOf (formatAt a) old m) (dataBlock a stripe content m)
 
-    length-target : (m : ℕ) → m < a .members → length (target m) ≡ 520
+    length-target : (m : ℕ) → m < a .members → length (target m) ≡ (formatAt a .blockLength)
     length-target m h = go (ℕ-discrete m (parityMember a stripe))
       where
-        go : Dec (m ≡ parityMember a stripe) → length (target m) ≡ 520
-        go (yes p) = rw (eq-eqb m (parityMember a stripe) p) (length-span (520 * m) 520 old (omega arith))
+        go : Dec (m ≡ parityMember a stripe) → length (target m) ≡ (formatAt a .blockLength)
+        go (yes p) = rw (eq-eqb m (parityMember a stripe) p) (length-span ((formatAt a .blockLength) * m) (formatAt a .blockLength) old (omega (arith, times-next (formatAt a .blockLength) m (a .members) h)))
         go (no p) = rw (ne-eqb m (parityMember a stripe) p) (length-data-block m h p)
 
     pub length-written : length (dataWritten a stripe content old) ≡ stripeLength a
     unfolding dataWritten
-    length-written = length-joined 520 (a .members) target length-target
+    length-written = length-joined (formatAt a .blockLength) (a .members) target length-target
 
-    pub block-of-written : (m : ℕ) → m < a .members → blockOf (dataWritten a stripe content old) m ≡ cond (isParity a stripe m) (blockOf old m) (dataBlock a stripe content m)
+    pub block-of-written : (m : ℕ) → m < a .members → blockOf (formatAt a) (dataWritten a stripe content old) m ≡ cond (isParity a stripe m) (blockOf (formatAt a) old m) (dataBlock a stripe content m)
     unfolding dataWritten
-    block-of-written m h = span-joined 520 (a .members) target m length-target h
+    block-of-written m h = span-joined (formatAt a .blockLength) (a .members) target m length-target h
 
     pub all-written : (bytes : List ℕ) (k : ℕ) → a .members ≤ k → Written a stripe content old k bytes → bytes ≡ dataWritten a stripe content old
     all-written bytes k h w =
-        same-blocks (a .members) bytes (dataWritten a stripe content old) (w .same-long ∙ room) length-written
+        same-blocks (formatAt a) (a .members) bytes (dataWritten a stripe content old) (w .same-long ∙ room) length-written
         (λ m l. w .below m (omega arith) ∙ sym (block-of-written m l))
 
     -- ---- the parity
 
-    pub data-of-written : (m : ℕ) → m < a .members → m ≢ parityMember a stripe → dataOf (blockOf (dataWritten a stripe content old) m) ≡ part 512 content (indexAt a stripe m)
+    pub data-of-written : (m : ℕ) → m < a .members → m ≢ parityMember a stripe → dataOf (formatAt a) (blockOf (formatAt a) (dataWritten a stripe content old) m) ≡ part (formatAt a .dataLength) content (indexAt a stripe m)
     data-of-written m h ne =
-        ap dataOf (block-of-written m h ∙ rw (ne-eqb m (parityMember a stripe) ne))
-        ∙ data-of-tagged a stripe m (part 512 content (indexAt a stripe m)) (enough (indexAt a stripe m) (index-below a stripe m h ne))
+        ap (dataOf (formatAt a)) (block-of-written m h ∙ rw (ne-eqb m (parityMember a stripe) ne))
+        ∙ data-of-tagged a stripe m (part (formatAt a .dataLength) content (indexAt a stripe m)) (enough (indexAt a stripe m) (index-below a stripe m h ne))
 
-    pub parity-of-written : othersData (a .members) (parityMember a stripe) (dataWritten a stripe content old) ≡ parityOf a content
+    pub parity-of-written : othersData (formatAt a) (a .members) (parityMember a stripe) (dataWritten a stripe content old) ≡ parityOf a content
     parity-of-written = parity-by-data (dataWritten a stripe content old) data-of-written
 
     -- its guard, as the calls name what they got
-    pub parity-guard : (p all : ℕ) (written made guards : List ℕ) → p ≡ parityMember a stripe → written ≡ dataWritten a stripe content old
-        → made ≡ othersData (a .members) p written → guards ≡ guardsOf 16 512 content → all ≡ combinedGuards (take (dataMembers a - 0) guards) → all ≡ guard made
-    parity-guard p all written made guards ep ew em eg ea =
-        let whole : dataMembers a - 0 ≡ dataMembers a = omega arith in
-        ea ∙ ap₂ (λ (k : ℕ) (l : List ℕ). combinedGuards (take k l)) whole eg
-        ∙ parts-guard content (dataMembers a) (omega (arith, sound .array .many)) (omega arith)
-        ∙ ap guard (sym (em ∙ ap₂ (othersData (a .members)) ep ew ∙ parity-of-written))
+    pub parity-guard : (p step all odd : ℕ) (written made guards : List ℕ) → p ≡ parityMember a stripe → written ≡ dataWritten a stripe content old
+        → made ≡ othersData (formatAt a) (a .members) p written → step ≡ formatAt a .dataLength → guards ≡ guardsOf (formatAt a) 16 step content
+        → all ≡ combinedGuards (take (dataMembers a - 0) guards) → odd ≡ spare (formatAt a) (a .members) → bitXor all odd ≡ guard (formatAt a) made
+    parity-guard p step all odd written made guards ep ew em es eg ea eo =
+        let F = formatAt a in
+        let d = dataMembers a in
+        let whole : d - 0 ≡ d = omega arith in
+        let n-is : a .members ≡ suc d = omega (arith, sound .array .few) in
+        ap₂ bitXor (ea ∙ ap₂ (λ (k : ℕ) (l : List ℕ). combinedGuards (take k l)) whole (eg ∙ ap (λ (k : ℕ). guardsOf F 16 k content) es)) (eo ∙ ap (spare F) n-is)
+        ∙ parts-guard F (combines 1) content d (omega (arith, sound .array .many)) (omega arith)
+        ∙ ap (guard F) (sym (em ∙ ap₂ (othersData F (a .members)) ep ew ∙ parity-of-written))
 
     -- ---- the whole
 
-    pub sealed-by-steps : (made last : List ℕ) → made ≡ othersData (a .members) (parityMember a stripe) (dataWritten a stripe content old)
-        → last ≡ withBlock (dataWritten a stripe content old) (parityMember a stripe) (tagged a stripe (parityMember a stripe) made) → last ≡ sealed a stripe content
+    pub sealed-by-steps : (made last : List ℕ) → made ≡ othersData (formatAt a) (a .members) (parityMember a stripe) (dataWritten a stripe content old)
+        → last ≡ withBlock (formatAt a) (dataWritten a stripe content old) (parityMember a stripe) (tagged a stripe (parityMember a stripe) made) → last ≡ sealed a stripe content
     sealed-by-steps made last e f =
-        same-blocks (a .members) last (sealed a stripe content) (ap length f ∙ length-sets whole (520 * p) (tagged a stripe p made) ∙ length-written) length-sealed
-        (λ m l. ap (λ (x : List ℕ). blockOf x m) f ∙ at m l (ℕ-discrete m p) ∙ sym (block-of-sealed m l))
+        same-blocks (formatAt a) (a .members) last (sealed a stripe content) (ap length f ∙ length-sets whole ((formatAt a .blockLength) * p) (tagged a stripe p made) ∙ length-written) length-sealed
+        (λ m l. ap (λ (x : List ℕ). blockOf (formatAt a) x m) f ∙ at m l (ℕ-discrete m p) ∙ sym (block-of-sealed m l))
       where
         whole : List ℕ
         whole = dataWritten a stripe content old
@@ -198,39 +204,39 @@ module _ (a : Array) (stripe : ℕ) (content : List ℕ) (sound : SoundStripe a 
         made-is : made ≡ parityOf a content
         made-is = e ∙ parity-of-written
 
-        size : length made ≡ 512
-        size = ap length made-is ∙ length-combination 512 (table (dataMembers a) (part 512 content))
+        size : length made ≡ (formatAt a .dataLength)
+        size = ap length made-is ∙ length-combination (formatAt a .dataLength) (table (dataMembers a) (part (formatAt a .dataLength) content))
 
-        at : (m : ℕ) → m < a .members → Dec (m ≡ p) → blockOf (withBlock whole p (tagged a stripe p made)) m ≡ tagged a stripe m (sealedData a stripe content m)
+        at : (m : ℕ) → m < a .members → Dec (m ≡ p) → blockOf (formatAt a) (withBlock (formatAt a) whole p (tagged a stripe p made)) m ≡ tagged a stripe m (sealedData a stripe content m)
         at m l (yes q) =
             rw (q, eq-eqb p p refl)
-            (block-written whole p (tagged a stripe p made) (length-tagged a stripe p made size) (omega (arith, length-written, rw q at l)) ∙ ap (tagged a stripe p) made-is)
+            (block-written (formatAt a) whole p (tagged a stripe p made) (length-tagged a stripe p made size) (omega (arith, length-written, times-next (formatAt a .blockLength) p (a .members) (rw q at l))) ∙ ap (tagged a stripe p) made-is)
         at m l (no q) =
-            block-kept whole p m (tagged a stripe p made) (length-tagged a stripe p made size) q ∙ block-of-written m l ∙ rw (ne-eqb m p q)
+            block-kept (formatAt a) whole p m (tagged a stripe p made) (length-tagged a stripe p made size) q ∙ block-of-written m l ∙ rw (ne-eqb m p q)
 
     -- the same, as the calls name what they got
     pub sealed-by-calls : (p : ℕ) (written made last : List ℕ) → p ≡ parityMember a stripe → written ≡ dataWritten a stripe content old
-        → made ≡ othersData (a .members) p written → last ≡ withBlock written p (tagged a stripe p made) → last ≡ sealed a stripe content
-    sealed-by-calls p written made last ep ew em el = sealed-by-steps made last (em ∙ ap₂ (othersData (a .members)) ep ew) (el ∙ ap₂ (λ (x : List ℕ) (k : ℕ). withBlock x k (tagged a stripe k made)) ew ep)
+        → made ≡ othersData (formatAt a) (a .members) p written → last ≡ withBlock (formatAt a) written p (tagged a stripe p made) → last ≡ sealed a stripe content
+    sealed-by-calls p written made last ep ew em el = sealed-by-steps made last (em ∙ ap₂ (othersData (formatAt a) (a .members)) ep ew) (el ∙ ap₂ (λ (x : List ℕ) (k : ℕ). withBlock (formatAt a) x k (tagged a stripe k made)) ew ep)
 
 -- ---- what a seal answers and leaves, case by case
 
 module _ (a : Array) (stripe contentBytes stripeBytes : ℕ) where
   pub seal-nowhere : stripeRefusal a stripe ≢ 0 → stripeRefusal a stripe ≡ sealRefusal a stripe contentBytes stripeBytes
   unfolding sealRefusal
-  seal-nowhere h = sym (after-refused (stripeRefusal a stripe) (refuse (not (eqb contentBytes (512 * dataMembers a) && eqb stripeBytes (stripeLength a))) 6 0) h)
+  seal-nowhere h = sym (after-refused (stripeRefusal a stripe) (refuse (not (eqb contentBytes ((formatAt a .dataLength) * dataMembers a) && eqb stripeBytes (stripeLength a))) 6 0) h)
 
-  pub seal-content : stripeRefusal a stripe ≡ 0 → contentBytes ≢ 512 * dataMembers a → 6 ≡ sealRefusal a stripe contentBytes stripeBytes
+  pub seal-content : stripeRefusal a stripe ≡ 0 → contentBytes ≢ (formatAt a .dataLength) * dataMembers a → 6 ≡ sealRefusal a stripe contentBytes stripeBytes
   unfolding sealRefusal
-  seal-content e h = rw (e, ne-eqb contentBytes (512 * dataMembers a) h)
+  seal-content e h = rw (e, ne-eqb contentBytes ((formatAt a .dataLength) * dataMembers a) h)
 
-  pub seal-length : stripeRefusal a stripe ≡ 0 → contentBytes ≡ 512 * dataMembers a → stripeBytes ≢ stripeLength a → 6 ≡ sealRefusal a stripe contentBytes stripeBytes
+  pub seal-length : stripeRefusal a stripe ≡ 0 → contentBytes ≡ (formatAt a .dataLength) * dataMembers a → stripeBytes ≢ stripeLength a → 6 ≡ sealRefusal a stripe contentBytes stripeBytes
   unfolding sealRefusal
-  seal-length e h k = rw (e, eq-eqb contentBytes (512 * dataMembers a) h, ne-eqb stripeBytes (stripeLength a) k)
+  seal-length e h k = rw (e, eq-eqb contentBytes ((formatAt a .dataLength) * dataMembers a) h, ne-eqb stripeBytes (stripeLength a) k)
 
-  pub seal-accepted : stripeRefusal a stripe ≡ 0 → contentBytes ≡ 512 * dataMembers a → stripeBytes ≡ stripeLength a → 0 ≡ sealRefusal a stripe contentBytes stripeBytes
+  pub seal-accepted : stripeRefusal a stripe ≡ 0 → contentBytes ≡ (formatAt a .dataLength) * dataMembers a → stripeBytes ≡ stripeLength a → 0 ≡ sealRefusal a stripe contentBytes stripeBytes
   unfolding sealRefusal
-  seal-accepted e h k = rw (e, eq-eqb contentBytes (512 * dataMembers a) h, eq-eqb stripeBytes (stripeLength a) k)
+  seal-accepted e h k = rw (e, eq-eqb contentBytes ((formatAt a .dataLength) * dataMembers a) h, eq-eqb stripeBytes (stripeLength a) k)
 
   -- 0 is answered only where all that is so
   pub seal-fitting : sealRefusal a stripe contentBytes stripeBytes ≡ 0 → Fitting a stripe contentBytes stripeBytes
@@ -241,10 +247,10 @@ module _ (a : Array) (stripe contentBytes stripeBytes : ℕ) where
       both true t e = (refl, e)
       both false t e = (e, (cc))
 
-      by-stripe : (k : ℕ) → stripeRefusal a stripe ≡ k → after k (refuse (not (eqb contentBytes (512 * dataMembers a) && eqb stripeBytes (stripeLength a))) 6 0) ≡ 0 → Fitting a stripe contentBytes stripeBytes
+      by-stripe : (k : ℕ) → stripeRefusal a stripe ≡ k → after k (refuse (not (eqb contentBytes ((formatAt a .dataLength) * dataMembers a) && eqb stripeBytes (stripeLength a))) 6 0) ≡ 0 → Fitting a stripe contentBytes stripeBytes
       by-stripe zero p e =
-          let tests = both (eqb contentBytes (512 * dataMembers a)) (eqb stripeBytes (stripeLength a)) (refuse-none (eqb contentBytes (512 * dataMembers a) && eqb stripeBytes (stripeLength a)) 5 0 e .0) in
-          record { stripe-good = p; content-long = eqb-true contentBytes (512 * dataMembers a) (tests .0); stripe-long = eqb-true stripeBytes (stripeLength a) (tests .1) }
+          let tests = both (eqb contentBytes ((formatAt a .dataLength) * dataMembers a)) (eqb stripeBytes (stripeLength a)) (refuse-none (eqb contentBytes ((formatAt a .dataLength) * dataMembers a) && eqb stripeBytes (stripeLength a)) 5 0 e .0) in
+          record { stripe-good = p; content-long = eqb-true contentBytes ((formatAt a .dataLength) * dataMembers a) (tests .0); stripe-long = eqb-true stripeBytes (stripeLength a) (tests .1) }
       by-stripe (suc k) p e = absurd (omega arith)
 
 module _ (a : Array) (stripe : ℕ) (content old : List ℕ) where

@@ -14,12 +14,14 @@ use Rattle.layout.specs.Arrays.{blockRefusal}
 use Rattle.layout.specs.Places.{stripeOf, memberOf, placeNumbers, ownerRefusal}
 use Rattle.layout.specs.declared.Array.{Array}
 use Rattle.layout.proofs.Bijection.{place-refusal}
-use Rattle.tag.specs.Blocks.{dataOf}
+use Rattle.format.specs.Formats.{Format}
+use Rattle.tag.specs.Blocks.{formatAt, dataOf}
 use Rattle.stripe.specs.Tables.{span}
 use Rattle.stripe.specs.Stripes.{stripeLength, blockOf, othersGood, othersData}
 use Rattle.stripe.specs.Jobs.{unlessRefused, storedGood, serveRefusal, servedData, readRefusal, readNumbers, readOut, Reads}
 use Rattle.tag.proofs.Tagged.{length-data}
 use Rattle.stripe.proofs.Rows.{lent-span, length-span}
+use Rattle.stripe.proofs.Guards.{data-span}
 use Rattle.stripe.proofs.Others.{others-are-good, good-others}
 
 -- ---- a buffer filled whole
@@ -30,16 +32,17 @@ sets-whole l vs h =
     ∙ ap (λ (x : List ℕ). vs ++ x) (drop-of-length-le l {i = 0 + length vs} (omega arith)) ∙ append-nil vs
 
 -- the data of a block, lent out of its stripe
-pub lent-data : (member : ℕ) (bytes : List ℕ) → take (520 * member + 512 - 520 * member) (drop (520 * member) bytes) ≡ dataOf (blockOf bytes member)
-unfolding dataOf span
-lent-data member bytes = lent-span (520 * member) 512 bytes ∙ sym (take-take 512 520 (drop (520 * member) bytes) (omega arith))
+pub lent-data : (F : Format) (member from size : ℕ) (bytes : List ℕ) → from ≡ F .blockLength * member → size ≡ F .dataLength
+    → take (from + size - from) (drop from bytes) ≡ dataOf F (blockOf F bytes member)
+lent-data F member from size bytes here same = lent-span from size bytes ∙ ap₂ (λ (k n : ℕ). span k n bytes) here same ∙ data-span F bytes member
 
 -- a buffer filled with what a part of a stripe, or a run, holds
-pub filled-with-data : (member : ℕ) (bytes out left : List ℕ) → 520 * member + 520 ≤ length bytes → length out ≡ 512
-    → left ≡ sets out 0 (take (520 * member + 512 - 520 * member) (drop (520 * member) bytes)) → left ≡ dataOf (blockOf bytes member)
-filled-with-data member bytes out left h room e =
-    e ∙ ap (sets out 0) (lent-data member bytes)
-    ∙ sets-whole out (dataOf (blockOf bytes member)) (room ∙ sym (length-data (blockOf bytes member) (length-span (520 * member) 520 bytes h)))
+pub filled-with-data : (F : Format) (member from size : ℕ) (bytes out left : List ℕ) → from ≡ F .blockLength * member → size ≡ F .dataLength
+    → F .blockLength * member + F .blockLength ≤ length bytes → length out ≡ F .dataLength
+    → left ≡ sets out 0 (take (from + size - from) (drop from bytes)) → left ≡ dataOf F (blockOf F bytes member)
+filled-with-data F member from size bytes out left here same h room e =
+    e ∙ ap (sets out 0) (lent-data F member from size bytes here same)
+    ∙ sets-whole out (dataOf F (blockOf F bytes member)) (room ∙ sym (length-data F (blockOf F bytes member) (length-span (F .blockLength * member) (F .blockLength) bytes h)))
 
 -- one bad member is enough
 pub bad-other : (a : Array) (stripe skip : ℕ) (bytes : List ℕ) (k : ℕ) → k < a .members → k ≢ skip → storedGood a stripe k bytes ≡ false → othersGood a stripe skip bytes ≡ false
@@ -66,29 +69,29 @@ module _ (a : Array) (stripe member : ℕ) (bytes out : List ℕ) where
   serve-other-stripe h = serve-refused 5 (rw (ne-eqb (length bytes) (stripeLength a) h))
 
   module _ (long : length bytes ≡ stripeLength a) where
-    pub serve-other-out : length out ≢ 512 → Serves (0 ∷ 6 ∷ 0 ∷ []) out
+    pub serve-other-out : length out ≢ (formatAt a .dataLength) → Serves (0 ∷ 6 ∷ 0 ∷ []) out
     unfolding serveRefusal
-    serve-other-out h = serve-refused 5 (rw (eq-eqb (length bytes) (stripeLength a) long, ne-eqb (length out) 512 h))
+    serve-other-out h = serve-refused 5 (rw (eq-eqb (length bytes) (stripeLength a) long, ne-eqb (length out) (formatAt a .dataLength) h))
 
-    module _ (room : length out ≡ 512) where
-      pub serve-stored : (left : List ℕ) → storedGood a stripe member bytes ≡ true → left ≡ dataOf (blockOf bytes member) → Serves (1 ∷ 0 ∷ 0 ∷ []) left
+    module _ (room : length out ≡ (formatAt a .dataLength)) where
+      pub serve-stored : (left : List ℕ) → storedGood a stripe member bytes ≡ true → left ≡ dataOf (formatAt a) (blockOf (formatAt a) bytes member) → Serves (1 ∷ 0 ∷ 0 ∷ []) left
       unfolding serveRefusal servedData
       serve-stored left good e =
           let l = eq-eqb (length bytes) (stripeLength a) long in
-          let r = eq-eqb (length out) 512 room in
+          let r = eq-eqb (length out) (formatAt a .dataLength) room in
           (rw (l, r, good), rw (l, r, good) e)
 
       module _ (bad : storedGood a stripe member bytes ≡ false) where
-        pub serve-rebuilt : (left : List ℕ) → othersGood a stripe member bytes ≡ true → left ≡ othersData (a .members) member bytes → Serves (1 ∷ 0 ∷ 1 ∷ []) left
+        pub serve-rebuilt : (left : List ℕ) → othersGood a stripe member bytes ≡ true → left ≡ othersData (formatAt a) (a .members) member bytes → Serves (1 ∷ 0 ∷ 1 ∷ []) left
         unfolding serveRefusal servedData
         serve-rebuilt left good e =
             let l = eq-eqb (length bytes) (stripeLength a) long in
-            let r = eq-eqb (length out) 512 room in
+            let r = eq-eqb (length out) (formatAt a .dataLength) room in
             (rw (l, r, bad, good), rw (l, r, bad, good) e)
 
         pub serve-damaged : othersGood a stripe member bytes ≡ false → Serves (0 ∷ 9 ∷ 0 ∷ []) out
         unfolding serveRefusal
-        serve-damaged others = serve-refused 8 (rw (eq-eqb (length bytes) (stripeLength a) long, eq-eqb (length out) 512 room, bad, others))
+        serve-damaged others = serve-refused 8 (rw (eq-eqb (length bytes) (stripeLength a) long, eq-eqb (length out) (formatAt a .dataLength) room, bad, others))
 
 -- ---- from the answer of `place`
 
@@ -138,24 +141,24 @@ module _ (a : Array) (block : ℕ) (bytes out : List ℕ) where
 
   -- ---- nothing is refused before the block is looked at: stored, rebuilt, or refused with the buffer as it was
 
-  module _ (taken : blockRefusal a block ≡ 0) (long : length bytes ≡ stripeLength a) (room : length out ≡ 512) where
+  module _ (taken : blockRefusal a block ≡ 0) (long : length bytes ≡ stripeLength a) (room : length out ≡ (formatAt a .dataLength)) where
     own : PlacedAt a block (stripeOf a block) (memberOf a block)
     own = record { taken = taken; in-stripe = refl; on-member = refl }
 
     -- a good block is served as it is stored, whatever the other members hold
-    pub read-stored : storedGood a (stripeOf a block) (memberOf a block) bytes ≡ true → Reads a block bytes out (1 ∷ 0 ∷ 0 ∷ []) (dataOf (blockOf bytes (memberOf a block)))
+    pub read-stored : storedGood a (stripeOf a block) (memberOf a block) bytes ≡ true → Reads a block bytes out (1 ∷ 0 ∷ 0 ∷ []) (dataOf (formatAt a) (blockOf (formatAt a) bytes (memberOf a block)))
     read-stored good =
         let s = stripeOf a block in
         let m = memberOf a block in
-        read-served s m (1 ∷ 0 ∷ 0 ∷ []) (dataOf (blockOf bytes m)) own (serve-stored a s m bytes out long room (dataOf (blockOf bytes m)) good refl)
+        read-served s m (1 ∷ 0 ∷ 0 ∷ []) (dataOf (formatAt a) (blockOf (formatAt a) bytes m)) own (serve-stored a s m bytes out long room (dataOf (formatAt a) (blockOf (formatAt a) bytes m)) good refl)
 
     module _ (bad : storedGood a (stripeOf a block) (memberOf a block) bytes ≡ false) where
       pub read-rebuilt : ((m : ℕ) → m < a .members → m ≢ memberOf a block → storedGood a (stripeOf a block) m bytes ≡ true)
-          → Reads a block bytes out (1 ∷ 0 ∷ 1 ∷ []) (othersData (a .members) (memberOf a block) bytes)
+          → Reads a block bytes out (1 ∷ 0 ∷ 1 ∷ []) (othersData (formatAt a) (a .members) (memberOf a block) bytes)
       read-rebuilt others =
           let s = stripeOf a block in
           let m = memberOf a block in
-          let made = othersData (a .members) m bytes in
+          let made = othersData (formatAt a) (a .members) m bytes in
           read-served s m (1 ∷ 0 ∷ 1 ∷ []) made own (serve-rebuilt a s m bytes out long room bad made (good-others a s m bytes others) refl)
 
       pub read-damaged : (k : ℕ) → k < a .members → k ≢ memberOf a block → storedGood a (stripeOf a block) k bytes ≡ false → Reads a block bytes out (0 ∷ 9 ∷ 0 ∷ []) out

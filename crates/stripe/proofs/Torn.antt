@@ -12,15 +12,22 @@ use lib.Dec.{lit<, lit≤}
 use lib.ListN.{length, getD, replicate, length-append, length-replicate, getD-replicate, List·getD-append}
 use lib.Seq.{getD-at}
 use Rattle.xor.specs.Xors.{xors, addAll, combination}
-use Rattle.xor.proofs.Lists.{xors-zeros, zeros-xors, xors-twice}
+use Rattle.xor.proofs.Lists.{xors-zeros, zeros-xors, xors-twice, xors-self}
 use Rattle.crc.specs.Crc.{bits, bitsOf, bitStep, feed, Bytes}
 use Rattle.crc.specs.Guard.{run, guard}
 use Rattle.crc.proofs.Joined.{run-joined}
+use Rattle.crc.proofs.Linear.{guard-linear}
+use lib.Bits.{bitXor, xor-self, xor-zero-r}
+use Rattle.format.specs.Formats.{guard as wide}
+use Rattle.format.specs.Methods.{formatOf}
+use Rattle.format.proofs.Laws.{guard-t10}
+use Rattle.format.proofs.Combined.{spare-even}
+use Rattle.layout.specs.Arrays.{arrayOf, arrayRefusal}
 use Rattle.layout.specs.Places.{ownerRefusal}
 use Rattle.layout.specs.Ranges.{Sound}
 use Rattle.layout.specs.declared.Array.{Array}
-use Rattle.layout.proofs.Ranges.{sound-place}
-use Rattle.tag.specs.Blocks.{dataLength, blockLength, dataOf}
+use Rattle.layout.proofs.Ranges.{array-sound, sound-place}
+use Rattle.tag.specs.Blocks.{formatAt, dataOf}
 use Rattle.tag.specs.Tags.{good, tagged}
 use Rattle.tag.proofs.Numbers.{bytes-joined}
 use Rattle.tag.proofs.Tagged.{length-tagged, data-of-tagged, tagged-good, bytes-tagged}
@@ -38,13 +45,24 @@ use Rattle.stripe.proofs.Rebuilds.{rebuild-others}
 use Rattle.stripe.proofs.Parity.{all-with-others}
 use Rattle.stripe.proofs.Restores.{rebuilt-data, rebuilt-good}
 use Rattle.stripe.proofs.Scrubs.{blocks-torn}
-use Rattle.stripe.proofs.Quick.{bytes-zeros, guard-zeros, guards-combined}
+use Rattle.stripe.proofs.Quick.{bytes-zeros, guards-combined}
+
+guard-zeros : (n : ℕ) → guard (replicate n 0) ≡ 0
+guard-zeros n =
+    ap (λ (k : ℕ). guard (replicate k 0)) (sym (length-replicate {A = ℕ} n 0)) ∙ ap guard (sym (xors-self (replicate n 0)))
+    ∙ guard-linear (replicate n 0) (replicate n 0) refl ∙ xor-self (guard (replicate n 0))
 
 abbrev pub bench : Array
-bench = record { members = 3; stripes = 1; volume = 7 }
+bench = arrayOf 3 1 7
+
+-- its format is that of method 1
+narrowed : (l : List ℕ) → wide (formatAt bench) l ≡ guard l
+unfolding formatOf
+narrowed l = guard-t10 l
 
 bench-sound : Sound bench
-bench-sound = record { few = lit≤ tt; many = lit≤ tt; some = lit≤ tt; most = lit≤ tt }
+unfolding arrayRefusal
+bench-sound = array-sound bench refl
 
 place : (m : ℕ) → m < 3 → ownerRefusal bench 0 m ≡ 0
 place m h = sound-place bench 0 m (record { stripe = record { array = bench-sound; here = lit< tt }; here = h })
@@ -65,22 +83,22 @@ abbrev pub tornBlocks : ℕ → ℕ → List ℕ → List (List ℕ)
 tornBlocks size zeros ending =
     tagged bench 0 0 (zerosThen zeros ending) ∷ tagged bench 0 1 (replicate size 0) ∷ tagged bench 0 2 (replicate size 0) ∷ []
 
-module _ (size zeros x : ℕ) (rest : List ℕ) (data-size : size ≡ dataLength) (fill : zeros + suc (length rest) ≡ size) (some : x ≢ 0) (bytes : Bytes (x ∷ rest)) where
-  long : length (zerosThen zeros (x ∷ rest)) ≡ dataLength
+module _ (size zeros x : ℕ) (rest : List ℕ) (data-size : size ≡ (formatAt bench .dataLength)) (fill : zeros + suc (length rest) ≡ size) (some : x ≢ 0) (bytes : Bytes (x ∷ rest)) where
+  long : length (zerosThen zeros (x ∷ rest)) ≡ (formatAt bench .dataLength)
   long = simp (length-append, length-replicate) (omega arith)
 
-  zeros-long : length (replicate {A = ℕ} size 0) ≡ dataLength
+  zeros-long : length (replicate {A = ℕ} size 0) ≡ (formatAt bench .dataLength)
   zeros-long = length-replicate {A = ℕ} size 0 ∙ data-size
 
-  combined : combination dataLength (map dataOf (tornBlocks size zeros (x ∷ rest))) ≡ zerosThen zeros (x ∷ rest)
+  combined : combination (formatAt bench .dataLength) (map (dataOf (formatAt bench)) (tornBlocks size zeros (x ∷ rest))) ≡ zerosThen zeros (x ∷ rest)
   combined =
-      with-zeros dataLength (dataOf (tagged bench 0 0 (zerosThen zeros (x ∷ rest)))) (dataOf (tagged bench 0 1 (replicate size 0))) (dataOf (tagged bench 0 2 (replicate size 0)))
+      with-zeros (formatAt bench .dataLength) (dataOf (formatAt bench) (tagged bench 0 0 (zerosThen zeros (x ∷ rest)))) (dataOf (formatAt bench) (tagged bench 0 1 (replicate size 0))) (dataOf (formatAt bench) (tagged bench 0 2 (replicate size 0)))
       (ap length first ∙ long)
       (data-of-tagged bench 0 1 (replicate size 0) zeros-long ∙ ap (λ (k : ℕ). replicate k 0) data-size)
       (data-of-tagged bench 0 2 (replicate size 0) zeros-long ∙ ap (λ (k : ℕ). replicate k 0) data-size)
       ∙ first
     where
-      first : dataOf (tagged bench 0 0 (zerosThen zeros (x ∷ rest))) ≡ zerosThen zeros (x ∷ rest)
+      first : dataOf (formatAt bench) (tagged bench 0 0 (zerosThen zeros (x ∷ rest))) ≡ zerosThen zeros (x ∷ rest)
       first = data-of-tagged bench 0 0 (zerosThen zeros (x ∷ rest)) long
 
   all-good : (m : ℕ) → m < 3 → good bench 0 m (getD (tornBlocks size zeros (x ∷ rest)) m []) ≡ true
@@ -105,7 +123,7 @@ module _ (size zeros x : ℕ) (rest : List ℕ) (data-size : size ≡ dataLength
   whole : Whole bench (tornBlocks size zeros (x ∷ rest))
   whole = record { all-there = refl; long = each-long; bytes = each-bytes }
     where
-      each-long : (i : ℕ) → i < 3 → length (getD (tornBlocks size zeros (x ∷ rest)) i []) ≡ blockLength
+      each-long : (i : ℕ) → i < 3 → length (getD (tornBlocks size zeros (x ∷ rest)) i []) ≡ (formatAt bench .blockLength)
       each-long zero h = length-tagged bench 0 0 (zerosThen zeros (x ∷ rest)) long
       each-long (suc zero) h = length-tagged bench 0 1 (replicate size 0) zeros-long
       each-long (suc (suc zero)) h = length-tagged bench 0 2 (replicate size 0) zeros-long
@@ -118,10 +136,13 @@ module _ (size zeros x : ℕ) (rest : List ℕ) (data-size : size ≡ dataLength
       each-bytes (suc (suc (suc m))) = λ k. lit< tt
 
   -- the stored guards combine to the guard of the ending
-  guards-there : combinedGuards (map storedGuard (tornBlocks size zeros (x ∷ rest))) ≡ guard (x ∷ rest)
+  guards-there : combinedGuards (map (storedGuard (formatAt bench)) (tornBlocks size zeros (x ∷ rest))) ≡ guard (x ∷ rest)
   unfolding guard
   guards-there =
-      guards-combined bench 0 (tornBlocks size zeros (x ∷ rest)) bench-sound whole none-bad ∙ ap guard combined
+      let F = formatAt bench in
+      let all = combinedGuards (map (storedGuard F) (tornBlocks size zeros (x ∷ rest))) in
+      sym (ap (bitXor all) (spare-even F 4 refl) ∙ xor-zero-r all)
+      ∙ guards-combined bench 0 (tornBlocks size zeros (x ∷ rest)) bench-sound whole none-bad ∙ ap (wide F) combined ∙ narrowed (zerosThen zeros (x ∷ rest))
       ∙ run-joined 0 (replicate zeros 0) (x ∷ rest) ∙ ap (λ (r : ℕ). run r (x ∷ rest)) (guard-zeros zeros)
     where
       none-bad : getD (scrubBlocks bench 0 (tornBlocks size zeros (x ∷ rest))) 0 0 ≢ 1
@@ -129,27 +150,27 @@ module _ (size zeros x : ℕ) (rest : List ℕ) (data-size : size ≡ dataLength
 
   -- ---- a rebuild of a data member, whose data are zeros: what comes back is the parity's ending, in a block that is good
 
-  block-there : (m : ℕ) → m < 3 → blockOf (joined (tornBlocks size zeros (x ∷ rest))) m ≡ getD (tornBlocks size zeros (x ∷ rest)) m []
-  block-there m h = span-joined blockLength 3 (λ m. getD (tornBlocks size zeros (x ∷ rest)) m []) m (whole .long) h
+  block-there : (m : ℕ) → m < 3 → blockOf (formatAt bench) (joined (tornBlocks size zeros (x ∷ rest))) m ≡ getD (tornBlocks size zeros (x ∷ rest)) m []
+  block-there m h = span-joined (formatAt bench .blockLength) 3 (λ m. getD (tornBlocks size zeros (x ∷ rest)) m []) m (whole .long) h
 
   in-memory : length (joined (tornBlocks size zeros (x ∷ rest))) ≡ stripeLength bench
-  in-memory = length-joined blockLength 3 (λ m. getD (tornBlocks size zeros (x ∷ rest)) m []) (whole .long)
+  in-memory = length-joined (formatAt bench .blockLength) 3 (λ m. getD (tornBlocks size zeros (x ∷ rest)) m []) (whole .long)
 
-  was-zero : dataOf (blockOf (joined (tornBlocks size zeros (x ∷ rest))) 1) ≡ replicate size 0
-  was-zero = ap dataOf (block-there 1 (lit< tt)) ∙ data-of-tagged bench 0 1 (replicate size 0) zeros-long
+  was-zero : dataOf (formatAt bench) (blockOf (formatAt bench) (joined (tornBlocks size zeros (x ∷ rest))) 1) ≡ replicate size 0
+  was-zero = ap (dataOf (formatAt bench)) (block-there 1 (lit< tt)) ∙ data-of-tagged bench 0 1 (replicate size 0) zeros-long
 
-  made-of-others : othersData 3 1 (joined (tornBlocks size zeros (x ∷ rest))) ≡ zerosThen zeros (x ∷ rest)
+  made-of-others : othersData (formatAt bench) 3 1 (joined (tornBlocks size zeros (x ∷ rest))) ≡ zerosThen zeros (x ∷ rest)
   made-of-others =
       let bytes = joined (tornBlocks size zeros (x ∷ rest)) in
-      let same : memberData 3 bytes ≡ map dataOf (tornBlocks size zeros (x ∷ rest)) = table-ext 3 (λ m. dataOf (blockOf bytes m)) (λ m. dataOf (getD (tornBlocks size zeros (x ∷ rest)) m [])) (λ m h. ap dataOf (block-there m h)) in
-      sym (xors-twice (othersData 3 1 bytes) (dataOf (blockOf bytes 1)))
-      ∙ ap (λ (l : List ℕ). xors l (dataOf (blockOf bytes 1))) (sym (all-with-others 3 1 bytes (lit< tt)) ∙ ap (combination dataLength) same ∙ combined)
+      let same : memberData (formatAt bench) 3 bytes ≡ map (dataOf (formatAt bench)) (tornBlocks size zeros (x ∷ rest)) = table-ext 3 (λ m. dataOf (formatAt bench) (blockOf (formatAt bench) bytes m)) (λ m. dataOf (formatAt bench) (getD (tornBlocks size zeros (x ∷ rest)) m [])) (λ m h. ap (dataOf (formatAt bench)) (block-there m h)) in
+      sym (xors-twice (othersData (formatAt bench) 3 1 bytes) (dataOf (formatAt bench) (blockOf (formatAt bench) bytes 1)))
+      ∙ ap (λ (l : List ℕ). xors l (dataOf (formatAt bench) (blockOf (formatAt bench) bytes 1))) (sym (all-with-others (formatAt bench) 3 1 bytes (lit< tt)) ∙ ap (combination (formatAt bench .dataLength)) same ∙ combined)
       ∙ ap (xors (zerosThen zeros (x ∷ rest))) was-zero ∙ xors-zeros (zerosThen zeros (x ∷ rest)) size
 
   pub rebuilt-wrong : (rebuildRefusal bench 0 1 (joined (tornBlocks size zeros (x ∷ rest))) ≡ 0)
-      × (dataOf (blockOf (joined (tornBlocks size zeros (x ∷ rest))) 1) ≡ replicate size 0)
-      × (dataOf (blockOf (rebuilt bench 0 1 (joined (tornBlocks size zeros (x ∷ rest)))) 1) ≡ zerosThen zeros (x ∷ rest))
-      × (good bench 0 1 (blockOf (rebuilt bench 0 1 (joined (tornBlocks size zeros (x ∷ rest)))) 1) ≡ true)
+      × (dataOf (formatAt bench) (blockOf (formatAt bench) (joined (tornBlocks size zeros (x ∷ rest))) 1) ≡ replicate size 0)
+      × (dataOf (formatAt bench) (blockOf (formatAt bench) (rebuilt bench 0 1 (joined (tornBlocks size zeros (x ∷ rest)))) 1) ≡ zerosThen zeros (x ∷ rest))
+      × (good bench 0 1 (blockOf (formatAt bench) (rebuilt bench 0 1 (joined (tornBlocks size zeros (x ∷ rest)))) 1) ≡ true)
   rebuilt-wrong =
       let bytes = joined (tornBlocks size zeros (x ∷ rest)) in
       let here = place 1 (lit< tt) in (
@@ -159,12 +180,12 @@ module _ (size zeros x : ℕ) (rest : List ℕ) (data-size : size ≡ dataLength
         rebuilt-good bench 0 1 bytes here in-memory (lit< tt),
       )
 
-  pub unseen : guard (x ∷ rest) ≡ 0 → quickNumbers (map storedGuard (tornBlocks size zeros (x ∷ rest))) ≡ 1 ∷ 0 ∷ 0 ∷ 0 ∷ []
-  unseen e = quick-fits (map storedGuard (tornBlocks size zeros (x ∷ rest))) (sound-quick 3 (lit≤ tt) (lit≤ tt)) (guards-there ∙ e)
+  pub unseen : guard (x ∷ rest) ≡ 0 → quickNumbers (map (storedGuard (formatAt bench)) (tornBlocks size zeros (x ∷ rest))) ≡ 1 ∷ 0 ∷ 0 ∷ 0 ∷ []
+  unseen e = quick-fits (map (storedGuard (formatAt bench)) (tornBlocks size zeros (x ∷ rest))) (sound-quick 3 (lit≤ tt) (lit≤ tt)) (guards-there ∙ e)
 
-  pub seen : guard (x ∷ rest) ≢ 0 → quickNumbers (map storedGuard (tornBlocks size zeros (x ∷ rest))) ≡ 1 ∷ 0 ∷ 1 ∷ guard (x ∷ rest) ∷ []
+  pub seen : guard (x ∷ rest) ≢ 0 → quickNumbers (map (storedGuard (formatAt bench)) (tornBlocks size zeros (x ∷ rest))) ≡ 1 ∷ 0 ∷ 1 ∷ guard (x ∷ rest) ∷ []
   seen h =
-      quick-differs (map storedGuard (tornBlocks size zeros (x ∷ rest))) (sound-quick 3 (lit≤ tt) (lit≤ tt)) (λ e. h (sym guards-there ∙ e))
+      quick-differs (map (storedGuard (formatAt bench)) (tornBlocks size zeros (x ∷ rest))) (sound-quick 3 (lit≤ tt) (lit≤ tt)) (λ e. h (sym guards-there ∙ e))
       ∙ ap (λ (g : ℕ). 1 ∷ 0 ∷ 1 ∷ g ∷ []) guards-there
 
 -- ---- the figures: torn at 509 both, the guards fit, and differ by 8BB7
@@ -183,29 +204,33 @@ guard-seen : guard (0x01 ∷ 0x8B ∷ 0xB6 ∷ []) ≡ 0x8BB7
 unfolding guard run feed bitsOf bits bitStep
 guard-seen = refl
 
+size-is : 512 ≡ formatAt bench .dataLength
+unfolding formatOf
+size-is = refl
+
 some-end : _≢_ {A = ℕ} 1 0
 some-end e = omega arith
 
 pub torn-unseen : (scrubBlocks bench 0 (tornBlocks 512 509 (0x01 ∷ 0x8B ∷ 0xB7 ∷ [])) ≡ 2 ∷ 509 ∷ 0 ∷ [])
-    × (quickNumbers (map storedGuard (tornBlocks 512 509 (0x01 ∷ 0x8B ∷ 0xB7 ∷ []))) ≡ 1 ∷ 0 ∷ 0 ∷ 0 ∷ [])
+    × (quickNumbers (map (storedGuard (formatAt bench)) (tornBlocks 512 509 (0x01 ∷ 0x8B ∷ 0xB7 ∷ []))) ≡ 1 ∷ 0 ∷ 0 ∷ 0 ∷ [])
 torn-unseen =
     let bytes = few-bytes 0x01 0x8B 0xB7 (lit< tt) (lit< tt) (lit< tt) in (
-      torn-there 512 509 0x01 (0x8B ∷ 0xB7 ∷ []) refl refl some-end bytes,
-      unseen 512 509 0x01 (0x8B ∷ 0xB7 ∷ []) refl refl some-end bytes guard-unseen,
+      torn-there 512 509 0x01 (0x8B ∷ 0xB7 ∷ []) size-is refl some-end bytes,
+      unseen 512 509 0x01 (0x8B ∷ 0xB7 ∷ []) size-is refl some-end bytes guard-unseen,
     )
 
 pub torn-seen : (scrubBlocks bench 0 (tornBlocks 512 509 (0x01 ∷ 0x8B ∷ 0xB6 ∷ [])) ≡ 2 ∷ 509 ∷ 0 ∷ [])
-    × (quickNumbers (map storedGuard (tornBlocks 512 509 (0x01 ∷ 0x8B ∷ 0xB6 ∷ []))) ≡ 1 ∷ 0 ∷ 1 ∷ 0x8BB7 ∷ [])
+    × (quickNumbers (map (storedGuard (formatAt bench)) (tornBlocks 512 509 (0x01 ∷ 0x8B ∷ 0xB6 ∷ []))) ≡ 1 ∷ 0 ∷ 1 ∷ 0x8BB7 ∷ [])
 torn-seen =
     let bytes = few-bytes 0x01 0x8B 0xB6 (lit< tt) (lit< tt) (lit< tt) in (
-      torn-there 512 509 0x01 (0x8B ∷ 0xB6 ∷ []) refl refl some-end bytes,
-      seen 512 509 0x01 (0x8B ∷ 0xB6 ∷ []) refl refl some-end bytes (λ e. let z : _≡_ {A = ℕ} 0x8BB7 0 = sym guard-seen ∙ e in omega arith)
+      torn-there 512 509 0x01 (0x8B ∷ 0xB6 ∷ []) size-is refl some-end bytes,
+      seen 512 509 0x01 (0x8B ∷ 0xB6 ∷ []) size-is refl some-end bytes (λ e. let z : _≡_ {A = ℕ} 0x8BB7 0 = sym guard-seen ∙ e in omega arith)
           ∙ ap (λ (g : ℕ). 1 ∷ 0 ∷ 1 ∷ g ∷ []) guard-seen,
     )
 
 -- the first of them rebuilt: the block on member 1 was zeros, and comes back as another, which is good there
 pub torn-rebuilt : (rebuildRefusal bench 0 1 (joined (tornBlocks 512 509 (0x01 ∷ 0x8B ∷ 0xB7 ∷ []))) ≡ 0)
-    × (dataOf (blockOf (joined (tornBlocks 512 509 (0x01 ∷ 0x8B ∷ 0xB7 ∷ []))) 1) ≡ replicate 512 0)
-    × (dataOf (blockOf (rebuilt bench 0 1 (joined (tornBlocks 512 509 (0x01 ∷ 0x8B ∷ 0xB7 ∷ [])))) 1) ≡ zerosThen 509 (0x01 ∷ 0x8B ∷ 0xB7 ∷ []))
-    × (good bench 0 1 (blockOf (rebuilt bench 0 1 (joined (tornBlocks 512 509 (0x01 ∷ 0x8B ∷ 0xB7 ∷ [])))) 1) ≡ true)
-torn-rebuilt = rebuilt-wrong 512 509 0x01 (0x8B ∷ 0xB7 ∷ []) refl refl some-end (few-bytes 0x01 0x8B 0xB7 (lit< tt) (lit< tt) (lit< tt))
+    × (dataOf (formatAt bench) (blockOf (formatAt bench) (joined (tornBlocks 512 509 (0x01 ∷ 0x8B ∷ 0xB7 ∷ []))) 1) ≡ replicate 512 0)
+    × (dataOf (formatAt bench) (blockOf (formatAt bench) (rebuilt bench 0 1 (joined (tornBlocks 512 509 (0x01 ∷ 0x8B ∷ 0xB7 ∷ [])))) 1) ≡ zerosThen 509 (0x01 ∷ 0x8B ∷ 0xB7 ∷ []))
+    × (good bench 0 1 (blockOf (formatAt bench) (rebuilt bench 0 1 (joined (tornBlocks 512 509 (0x01 ∷ 0x8B ∷ 0xB7 ∷ [])))) 1) ≡ true)
+torn-rebuilt = rebuilt-wrong 512 509 0x01 (0x8B ∷ 0xB7 ∷ []) size-is refl some-end (few-bytes 0x01 0x8B 0xB7 (lit< tt) (lit< tt) (lit< tt))

@@ -19,7 +19,9 @@ use Rattle.layout.specs.Places.{parityMember, stripeOf, memberOf, ownerRefusal}
 use Rattle.layout.specs.declared.Array.{Array}
 use Rattle.layout.proofs.Ranges.{place-sound}
 use Rattle.layout.proofs.Bijection.{place-refusal, parity-no-block}
-use Rattle.tag.specs.Blocks.{dataOf}
+use Rattle.format.specs.Formats.{Format}
+use Rattle.format.proofs.Sizes.{times-next}
+use Rattle.tag.specs.Blocks.{formatAt, dataOf}
 use Rattle.tag.specs.Tags.{tagged}
 use Rattle.tag.proofs.Tagged.{length-data, length-tagged, data-of-tagged, tagged-good}
 use Rattle.stripe.specs.Stripes.{blockOf, memberData}
@@ -32,24 +34,24 @@ use Rattle.stripe.proofs.Updates.{parity-sound, replaceable, Inside, in
 
 -- ---- the members' data, one block written
 
-abbrev dataAt : List ℕ → ℕ → List ℕ
-dataAt bytes m = dataOf (blockOf bytes m)
+abbrev dataAt : Format → List ℕ → ℕ → List ℕ
+dataAt F bytes m = dataOf F (blockOf F bytes m)
 
-pub data-with-block : (n : ℕ) (bytes : List ℕ) (m : ℕ) (block : List ℕ) → length block ≡ 520 → m < n → 520 * n ≤ length bytes
-    → memberData n (withBlock bytes m block) ≡ set (memberData n bytes) m (dataOf block)
-data-with-block n bytes m block long h room =
-    ext-getD [] (memberData n (withBlock bytes m block)) (set (memberData n bytes) m (dataOf block))
-    (length-table n (dataAt (withBlock bytes m block)) ∙ sym (length-set (memberData n bytes) m (dataOf block) ∙ length-table n (dataAt bytes)))
+pub data-with-block : (F : Format) (n : ℕ) (bytes : List ℕ) (m : ℕ) (block : List ℕ) → length block ≡ F .blockLength → m < n → F .blockLength * n ≤ length bytes
+    → memberData F n (withBlock F bytes m block) ≡ set (memberData F n bytes) m (dataOf F block)
+data-with-block F n bytes m block long h room =
+    ext-getD [] (memberData F n (withBlock F bytes m block)) (set (memberData F n bytes) m (dataOf F block))
+    (length-table n (dataAt F (withBlock F bytes m block)) ∙ sym (length-set (memberData F n bytes) m (dataOf F block) ∙ length-table n (dataAt F bytes)))
     (λ i l. at i (rw length-table at l) (ℕ-discrete i m))
   where
-    at : (i : ℕ) → i < n → Dec (i ≡ m) → getD (memberData n (withBlock bytes m block)) i [] ≡ getD (set (memberData n bytes) m (dataOf block)) i []
+    at : (i : ℕ) → i < n → Dec (i ≡ m) → getD (memberData F n (withBlock F bytes m block)) i [] ≡ getD (set (memberData F n bytes) m (dataOf F block)) i []
     at i l (yes e) =
-        getD-table n (dataAt (withBlock bytes m block)) [] i l
-        ∙ ap dataOf (ap (blockOf (withBlock bytes m block)) e ∙ block-written bytes m block long (omega arith))
-        ∙ sym (ap (λ (k : ℕ). getD (set (memberData n bytes) m (dataOf block)) k []) e ∙ getD-set-same (memberData n bytes) m (dataOf block) [] (rw length-table h))
+        getD-table n (dataAt F (withBlock F bytes m block)) [] i l
+        ∙ ap (dataOf F) (ap (blockOf F (withBlock F bytes m block)) e ∙ block-written F bytes m block long (omega (arith, times-next (F .blockLength) m n h)))
+        ∙ sym (ap (λ (k : ℕ). getD (set (memberData F n bytes) m (dataOf F block)) k []) e ∙ getD-set-same (memberData F n bytes) m (dataOf F block) [] (rw length-table h))
     at i l (no ne) =
-        getD-table n (dataAt (withBlock bytes m block)) [] i l ∙ ap dataOf (block-kept bytes m i block long ne)
-        ∙ sym (getD-set-other (memberData n bytes) m i (dataOf block) [] ne ∙ getD-table n (dataAt bytes) [] i l)
+        getD-table n (dataAt F (withBlock F bytes m block)) [] i l ∙ ap (dataOf F) (block-kept F bytes m i block long ne)
+        ∙ sym (getD-set-other (memberData F n bytes) m i (dataOf F block) [] ne ∙ getD-table n (dataAt F bytes) [] i l)
 
 -- old data and old parity out, new data and moved parity in: nothing is changed in sum
 pub moved-cancels : (z old new parity : List ℕ) → length z ≡ length parity → xors (xors (xors (xors z old) new) parity) (xors (xors parity old) new) ≡ z
@@ -68,49 +70,49 @@ moved-cancels z old new parity long =
 module _ (a : Array) (stripe member : ℕ) (new bytes : List ℕ) where
   -- the parity's data that an update leaves
   abbrev pub movedData : List ℕ
-  movedData = xors (xors (dataOf (blockOf bytes (parityMember a stripe))) (dataOf (blockOf bytes member))) new
+  movedData = xors (xors (dataOf (formatAt a) (blockOf (formatAt a) bytes (parityMember a stripe))) (dataOf (formatAt a) (blockOf (formatAt a) bytes member))) new
 
   length-replaced : length (replaced a stripe member new bytes) ≡ length bytes
   unfolding replaced
   length-replaced =
-      length-sets (withBlock bytes member (tagged a stripe member new)) (520 * parityMember a stripe) (tagged a stripe (parityMember a stripe) movedData)
-      ∙ length-sets bytes (520 * member) (tagged a stripe member new)
+      length-sets (withBlock (formatAt a) bytes member (tagged a stripe member new)) ((formatAt a .blockLength) * parityMember a stripe) (tagged a stripe (parityMember a stripe) movedData)
+      ∙ length-sets bytes ((formatAt a .blockLength) * member) (tagged a stripe member new)
 
   module _ (place : ownerRefusal a stripe member ≡ 0) (apart : member ≢ parityMember a stripe) (taken : replaceRefusal a stripe member (length new) bytes ≡ 0) where
     fit : Inside a stripe member (length new) bytes
     fit = inside a stripe member (length new) bytes place taken
 
     abbrev once : List ℕ
-    once = withBlock bytes member (tagged a stripe member new)
+    once = withBlock (formatAt a) bytes member (tagged a stripe member new)
 
-    long-own : length (tagged a stripe member new) ≡ 520
+    long-own : length (tagged a stripe member new) ≡ (formatAt a .blockLength)
     long-own = length-tagged a stripe member new (fit .size)
 
-    long-moved : length movedData ≡ 512
-    long-moved = length-moved (parityMember a stripe) bytes (dataOf (blockOf bytes member)) new (fit .parity)
+    long-moved : length movedData ≡ (formatAt a .dataLength)
+    long-moved = length-moved (formatAt a) (parityMember a stripe) bytes (dataOf (formatAt a) (blockOf (formatAt a) bytes member)) new (fit .parity)
 
-    long-parity : length (tagged a stripe (parityMember a stripe) movedData) ≡ 520
+    long-parity : length (tagged a stripe (parityMember a stripe) movedData) ≡ (formatAt a .blockLength)
     long-parity = length-tagged a stripe (parityMember a stripe) movedData long-moved
 
     kept-once : length once ≡ length bytes
-    kept-once = length-sets bytes (520 * member) (tagged a stripe member new)
+    kept-once = length-sets bytes ((formatAt a .blockLength) * member) (tagged a stripe member new)
 
-    replaced-own : blockOf (replaced a stripe member new bytes) member ≡ tagged a stripe member new
+    replaced-own : blockOf (formatAt a) (replaced a stripe member new bytes) member ≡ tagged a stripe member new
     unfolding replaced
     replaced-own =
-        block-kept once (parityMember a stripe) member (tagged a stripe (parityMember a stripe) movedData) long-parity apart
-        ∙ block-written bytes member (tagged a stripe member new) long-own (fit .own)
+        block-kept (formatAt a) once (parityMember a stripe) member (tagged a stripe (parityMember a stripe) movedData) long-parity apart
+        ∙ block-written (formatAt a) bytes member (tagged a stripe member new) long-own (fit .own)
 
-    replaced-parity : blockOf (replaced a stripe member new bytes) (parityMember a stripe) ≡ tagged a stripe (parityMember a stripe) movedData
+    replaced-parity : blockOf (formatAt a) (replaced a stripe member new bytes) (parityMember a stripe) ≡ tagged a stripe (parityMember a stripe) movedData
     unfolding replaced
     replaced-parity =
-        block-written once (parityMember a stripe) (tagged a stripe (parityMember a stripe) movedData) long-parity (omega (arith, kept-once, fit .parity))
+        block-written (formatAt a) once (parityMember a stripe) (tagged a stripe (parityMember a stripe) movedData) long-parity (omega (arith, kept-once, fit .parity))
 
-    replaced-other : (k : ℕ) → k ≢ member → k ≢ parityMember a stripe → blockOf (replaced a stripe member new bytes) k ≡ blockOf bytes k
+    replaced-other : (k : ℕ) → k ≢ member → k ≢ parityMember a stripe → blockOf (formatAt a) (replaced a stripe member new bytes) k ≡ blockOf (formatAt a) bytes k
     unfolding replaced
     replaced-other k own parity =
-        block-kept once (parityMember a stripe) k (tagged a stripe (parityMember a stripe) movedData) long-parity parity
-        ∙ block-kept bytes member k (tagged a stripe member new) long-own own
+        block-kept (formatAt a) once (parityMember a stripe) k (tagged a stripe (parityMember a stripe) movedData) long-parity parity
+        ∙ block-kept (formatAt a) bytes member k (tagged a stripe member new) long-own own
 
     replaced-good : a .volume < 256 → (k : ℕ) → storedGood a stripe k bytes ≡ true → storedGood a stripe k (replaced a stripe member new bytes) ≡ true
     replaced-good volume k good = by-kind (ℕ-discrete k member) (ℕ-discrete k (parityMember a stripe))
@@ -120,31 +122,31 @@ module _ (a : Array) (stripe member : ℕ) (new bytes : List ℕ) where
         by-kind (no o) (yes e) = rw (e, replaced-parity) (tagged-good a stripe (parityMember a stripe) movedData long-moved (parity-sound a stripe member place) volume)
         by-kind (no o) (no p) = rw (replaced-other k o p) good
 
-    replaced-combination : combination 512 (memberData (a .members) (replaced a stripe member new bytes)) ≡ combination 512 (memberData (a .members) bytes)
+    replaced-combination : combination (formatAt a .dataLength) (memberData (formatAt a) (a .members) (replaced a stripe member new bytes)) ≡ combination (formatAt a .dataLength) (memberData (formatAt a) (a .members) bytes)
     unfolding replaced
     replaced-combination =
         let n = a .members in
         let p = parityMember a stripe in
-        let runs = memberData n bytes in
-        let zeros : List ℕ = replicate 512 0 in
+        let runs = memberData (formatAt a) n bytes in
+        let zeros : List ℕ = replicate (formatAt a .dataLength) 0 in
         let h = place-sound a stripe member place in
         let hp = place-sound a stripe p (parity-sound a stripe member place) in
         let r = replaceable a stripe member (length new) bytes taken in
-        let own : getD runs member [] ≡ dataOf (blockOf bytes member) = getD-table n (dataAt bytes) [] member (h .here) in
-        let parity : getD (set runs member new) p [] ≡ dataOf (blockOf bytes p) =
-        getD-set-other runs member p new [] (λ e. apart (sym e)) ∙ getD-table n (dataAt bytes) [] p (hp .here) in
-        let first : memberData n once ≡ set runs member new =
-        data-with-block n bytes member (tagged a stripe member new) long-own (h .here) (omega arith)
+        let own : getD runs member [] ≡ dataOf (formatAt a) (blockOf (formatAt a) bytes member) = getD-table n (dataAt (formatAt a) bytes) [] member (h .here) in
+        let parity : getD (set runs member new) p [] ≡ dataOf (formatAt a) (blockOf (formatAt a) bytes p) =
+        getD-set-other runs member p new [] (λ e. apart (sym e)) ∙ getD-table n (dataAt (formatAt a) bytes) [] p (hp .here) in
+        let first : memberData (formatAt a) n once ≡ set runs member new =
+        data-with-block (formatAt a) n bytes member (tagged a stripe member new) long-own (h .here) (omega arith)
         ∙ ap (set runs member) (data-of-tagged a stripe member new (fit .size)) in
-        let second : memberData n (withBlock once p (tagged a stripe p movedData)) ≡ set (set runs member new) p movedData =
-        data-with-block n once p (tagged a stripe p movedData) long-parity (hp .here) (omega (arith, kept-once))
+        let second : memberData (formatAt a) n (withBlock (formatAt a) once p (tagged a stripe p movedData)) ≡ set (set runs member new) p movedData =
+        data-with-block (formatAt a) n once p (tagged a stripe p movedData) long-parity (hp .here) (omega (arith, kept-once))
         ∙ ap₂ (λ (x : List (List ℕ)) (y : List ℕ). set x p y) first (data-of-tagged a stripe p movedData long-moved) in
         let inRuns : member < length runs = rw length-table (h .here) in
         let inSet : p < length (set runs member new) = simp (length-set, length-table) (hp .here) in
         ap (addAll zeros) second ∙ addAll-set zeros (set runs member new) p movedData inSet
         ∙ ap₂ (λ (x y : List ℕ). xors (xors x y) movedData) (addAll-set zeros runs member new inRuns ∙ ap (λ (x : List ℕ). xors (xors (addAll zeros runs) x) new) own) parity
-        ∙ moved-cancels (addAll zeros runs) (dataOf (blockOf bytes member)) new (dataOf (blockOf bytes p))
-        (length-combination 512 runs ∙ sym (length-data (blockOf bytes p) (length-span (520 * p) 520 bytes (fit .parity))))
+        ∙ moved-cancels (addAll zeros runs) (dataOf (formatAt a) (blockOf (formatAt a) bytes member)) new (dataOf (formatAt a) (blockOf (formatAt a) bytes p))
+        (length-combination (formatAt a .dataLength) runs ∙ sym (length-data (formatAt a) (blockOf (formatAt a) bytes p) (length-span ((formatAt a .blockLength) * p) (formatAt a .blockLength) bytes (fit .parity))))
 
 -- ---- a block of the array
 
@@ -155,7 +157,7 @@ module _ (a : Array) (block : ℕ) (new bytes : List ℕ) where
   update-refused-keeps h = rw (ne-eqb (updateRefusal a block (length new) bytes) 0 h)
 
   module _ (done : updateRefusal a block (length new) bytes ≡ 0) where
-    refusals : (blockRefusal a block ≡ 0) × (replaceRefusal a (stripeOf a block) (memberOf a block) (length new) bytes ≡ 0)
+    pub refusals : (blockRefusal a block ≡ 0) × (replaceRefusal a (stripeOf a block) (memberOf a block) (length new) bytes ≡ 0)
     unfolding updateRefusal
     refusals = none (blockRefusal a block) (replaceRefusal a (stripeOf a block) (memberOf a block) (length new) bytes) done
       where
@@ -169,7 +171,7 @@ module _ (a : Array) (block : ℕ) (new bytes : List ℕ) where
     apart : memberOf a block ≢ parityMember a (stripeOf a block)
     apart = parity-no-block a block
 
-    as-replaced : updateBytes a block new bytes ≡ replaced a (stripeOf a block) (memberOf a block) new bytes
+    pub as-replaced : updateBytes a block new bytes ≡ replaced a (stripeOf a block) (memberOf a block) new bytes
     unfolding updateBytes
     as-replaced = rw (eq-eqb (updateRefusal a block (length new) bytes) 0 done)
 
@@ -177,18 +179,18 @@ module _ (a : Array) (block : ℕ) (new bytes : List ℕ) where
     update-keeps-length = ap length as-replaced ∙ length-replaced a (stripeOf a block) (memberOf a block) new bytes
 
     -- the block holds the new data, the parity's block what brings it along, and every other block is byte for byte as it was
-    pub update-own : blockOf (updateBytes a block new bytes) (memberOf a block) ≡ tagged a (stripeOf a block) (memberOf a block) new
+    pub update-own : blockOf (formatAt a) (updateBytes a block new bytes) (memberOf a block) ≡ tagged a (stripeOf a block) (memberOf a block) new
     update-own = rw as-replaced (replaced-own a (stripeOf a block) (memberOf a block) new bytes place apart (refusals .1))
 
-    pub update-parity : blockOf (updateBytes a block new bytes) (parityMember a (stripeOf a block))
+    pub update-parity : blockOf (formatAt a) (updateBytes a block new bytes) (parityMember a (stripeOf a block))
         ≡ tagged a (stripeOf a block) (parityMember a (stripeOf a block)) (movedData a (stripeOf a block) (memberOf a block) new bytes)
     update-parity = rw as-replaced (replaced-parity a (stripeOf a block) (memberOf a block) new bytes place apart (refusals .1))
 
-    pub update-keeps-others : (m : ℕ) → m ≢ memberOf a block → m ≢ parityMember a (stripeOf a block) → blockOf (updateBytes a block new bytes) m ≡ blockOf bytes m
+    pub update-keeps-others : (m : ℕ) → m ≢ memberOf a block → m ≢ parityMember a (stripeOf a block) → blockOf (formatAt a) (updateBytes a block new bytes) m ≡ blockOf (formatAt a) bytes m
     update-keeps-others m own parity = rw as-replaced (replaced-other a (stripeOf a block) (memberOf a block) new bytes place apart (refusals .1) m own parity)
 
     -- a torn stripe stays as torn as it was, a whole one whole
-    pub update-keeps-combination : combination 512 (memberData (a .members) (updateBytes a block new bytes)) ≡ combination 512 (memberData (a .members) bytes)
+    pub update-keeps-combination : combination (formatAt a .dataLength) (memberData (formatAt a) (a .members) (updateBytes a block new bytes)) ≡ combination (formatAt a .dataLength) (memberData (formatAt a) (a .members) bytes)
     update-keeps-combination = rw as-replaced (replaced-combination a (stripeOf a block) (memberOf a block) new bytes place apart (refusals .1))
 
     module _ (volume : a .volume < 256) where
@@ -197,17 +199,17 @@ module _ (a : Array) (block : ℕ) (new bytes : List ℕ) where
 
       -- every member good and the data combining to zero: so before, so after
       pub update-keeps-clean : ((m : ℕ) → m < a .members → storedGood a (stripeOf a block) m bytes ≡ true)
-          → combination 512 (memberData (a .members) bytes) ≡ replicate 512 0
+          → combination (formatAt a .dataLength) (memberData (formatAt a) (a .members) bytes) ≡ replicate (formatAt a .dataLength) 0
           → ((m : ℕ) → m < a .members → storedGood a (stripeOf a block) m (updateBytes a block new bytes) ≡ true)
-          × (combination 512 (memberData (a .members) (updateBytes a block new bytes)) ≡ replicate 512 0)
+          × (combination (formatAt a .dataLength) (memberData (formatAt a) (a .members) (updateBytes a block new bytes)) ≡ replicate (formatAt a .dataLength) 0)
       update-keeps-clean good zeros = (λ m h. update-keeps-good m (good m h), update-keeps-combination ∙ zeros)
 
       -- a read of the block then says stored, and gives the new data
-      pub read-updated : (out : List ℕ) → length out ≡ 512 → Reads a block (updateBytes a block new bytes) out (1 ∷ 0 ∷ 0 ∷ []) new
+      pub read-updated : (out : List ℕ) → length out ≡ (formatAt a .dataLength) → Reads a block (updateBytes a block new bytes) out (1 ∷ 0 ∷ 0 ∷ []) new
       read-updated out room =
           let m = memberOf a block in
           let s = stripeOf a block in
           let r = replaceable a s m (length new) bytes (refusals .1) in
           let h = read-stored a block (updateBytes a block new bytes) out (refusals .0) (update-keeps-length ∙ r .long) room (update-keeps-good m (r .own-good)) in
-          let same : dataOf (blockOf (updateBytes a block new bytes) m) ≡ new = ap dataOf update-own ∙ data-of-tagged a s m new (r .size) in
+          let same : dataOf (formatAt a) (blockOf (formatAt a) (updateBytes a block new bytes) m) ≡ new = ap (dataOf (formatAt a)) update-own ∙ data-of-tagged a s m new (r .size) in
           (h .0, sym same ∙ h .1)

@@ -9,9 +9,9 @@ use native.Mathlib.Omega.{arith}
 use borrow.Author.Tests.{eq-eqb, ne-eqb, eqb-true}
 use lib.Dec.{eqb}
 use lib.ListN.{length, take, drop}
-use lib.Seq.{sets, length-sets}
+use lib.Seq.{sets, length-sets, sets-eq, take-at, take-all}
 use Rattle.xor.specs.Xors.{xors}
-use Rattle.xor.proofs.Lists.{length-xors}
+use Rattle.xor.proofs.Lists.{length-xors, take-xors}
 use Rattle.layout.specs.Answers.{refuse}
 use Rattle.layout.specs.Arrays.{blockRefusal}
 use Rattle.layout.specs.Places.{parityMember, placeNumbers, ownerRefusal}
@@ -19,14 +19,16 @@ use Rattle.layout.specs.declared.Array.{Array}
 use Rattle.layout.proofs.Answers.{refuse-none}
 use Rattle.layout.proofs.Ranges.{place-sound, sound-place}
 use Rattle.layout.proofs.Members.{parity-below}
-use Rattle.tag.specs.Blocks.{dataOf}
+use Rattle.format.specs.Formats.{Format}
+use Rattle.format.proofs.Sizes.{times-next}
+use Rattle.tag.specs.Blocks.{formatAt, dataOf}
 use Rattle.tag.specs.Tags.{tagged}
 use Rattle.tag.proofs.Tagged.{length-data}
 use Rattle.stripe.specs.Stripes.{stripeLength, blockOf}
 use Rattle.stripe.specs.Jobs.{unlessRefused, withBlock, storedGood, replaceRefusal, replaced, updateRefusal, updateBytes}
 use Rattle.stripe.specs.Accepted.{Replaceable}
 use Rattle.stripe.proofs.Rows.{length-span}
-use Rattle.stripe.proofs.Served.{lent-data, filled-with-data, refused-by-place, PlacedAt}
+use Rattle.stripe.proofs.Served.{lent-data, refused-by-place, PlacedAt}
 
 -- the parity's place is one of the array where any member's is
 pub parity-sound : (a : Array) (stripe member : ℕ) → ownerRefusal a stripe member ≡ 0 → ownerRefusal a stripe (parityMember a stripe) ≡ 0
@@ -42,15 +44,15 @@ module _ (a : Array) (stripe member new : ℕ) (bytes : List ℕ) where
   replace-other-stripe h = rw (ne-eqb (length bytes) (stripeLength a) h)
 
   module _ (long : length bytes ≡ stripeLength a) where
-    pub replace-other-data : new ≢ 512 → 6 ≡ replaceRefusal a stripe member new bytes
+    pub replace-other-data : new ≢ (formatAt a .dataLength) → 6 ≡ replaceRefusal a stripe member new bytes
     unfolding replaceRefusal
-    replace-other-data h = rw (eq-eqb (length bytes) (stripeLength a) long, ne-eqb new 512 h)
+    replace-other-data h = rw (eq-eqb (length bytes) (stripeLength a) long, ne-eqb new (formatAt a .dataLength) h)
 
-    module _ (size : new ≡ 512) where
+    module _ (size : new ≡ (formatAt a .dataLength)) where
       replace-by-flags : (f g : Bool) → storedGood a stripe member bytes ≡ f → storedGood a stripe (parityMember a stripe) bytes ≡ g
           → refuse (not (f && g)) 9 0 ≡ replaceRefusal a stripe member new bytes
       unfolding replaceRefusal
-      replace-by-flags f g own parity = rw (eq-eqb (length bytes) (stripeLength a) long, eq-eqb new 512 size, own, parity)
+      replace-by-flags f g own parity = rw (eq-eqb (length bytes) (stripeLength a) long, eq-eqb new (formatAt a .dataLength) size, own, parity)
 
       pub replace-bad : storedGood a stripe member bytes ≡ false → 9 ≡ replaceRefusal a stripe member new bytes
       replace-bad h = replace-by-flags false (storedGood a stripe (parityMember a stripe) bytes) h refl
@@ -65,12 +67,12 @@ module _ (a : Array) (stripe member new : ℕ) (bytes : List ℕ) where
   pub replaceable : replaceRefusal a stripe member new bytes ≡ 0 → Replaceable a stripe member new bytes
   unfolding replaceRefusal
   replaceable e =
-      let lengths = eqb (length bytes) (stripeLength a) && eqb new 512 in
+      let lengths = eqb (length bytes) (stripeLength a) && eqb new (formatAt a .dataLength) in
       let flags = storedGood a stripe member bytes && storedGood a stripe (parityMember a stripe) bytes in
       let h = refuse-none lengths 5 (refuse (not flags) 9 0) e in
-      let l = both (eqb (length bytes) (stripeLength a)) (eqb new 512) (h .0) in
+      let l = both (eqb (length bytes) (stripeLength a)) (eqb new (formatAt a .dataLength)) (h .0) in
       let f = both (storedGood a stripe member bytes) (storedGood a stripe (parityMember a stripe) bytes) (refuse-none flags 8 0 (h .1) .0) in
-      record { long = eqb-true (length bytes) (stripeLength a) (l .0); size = eqb-true new 512 (l .1); own-good = f .0; parity-good = f .1 }
+      record { long = eqb-true (length bytes) (stripeLength a) (l .0); size = eqb-true new (formatAt a .dataLength) (l .1); own-good = f .0; parity-good = f .1 }
     where
       both : (s t : Bool) → (s && t) ≡ true → (s ≡ true) × (t ≡ true)
       both true t e = (refl, e)
@@ -78,32 +80,55 @@ module _ (a : Array) (stripe member new : ℕ) (bytes : List ℕ) where
 
   -- both blocks lie in the stripe
   pub record Inside : Type 0 where
-    pub size : new ≡ 512
-    pub own : 520 * member + 520 ≤ length bytes
-    pub parity : 520 * parityMember a stripe + 520 ≤ length bytes
+    pub size : new ≡ (formatAt a .dataLength)
+    pub own : (formatAt a .blockLength) * member + (formatAt a .blockLength) ≤ length bytes
+    pub parity : (formatAt a .blockLength) * parityMember a stripe + (formatAt a .blockLength) ≤ length bytes
 
   pub inside : ownerRefusal a stripe member ≡ 0 → replaceRefusal a stripe member new bytes ≡ 0 → Inside
   inside place e =
       let r = replaceable e in
       let h = place-sound a stripe member place in
       let p = place-sound a stripe (parityMember a stripe) (parity-sound a stripe member place) in
-      record { size = r .size; own = omega arith; parity = omega arith }
+      record {
+        size = r .size;
+        own = omega (arith, times-next (formatAt a .blockLength) member (a .members) (h .here));
+        parity = omega (arith, times-next (formatAt a .blockLength) (parityMember a stripe) (a .members) (p .here));
+      }
 
 -- ---- the parity's data, brought along
 
-pub length-moved : (parity : ℕ) (bytes old new : List ℕ) → 520 * parity + 520 ≤ length bytes → length (xors (xors (dataOf (blockOf bytes parity)) old) new) ≡ 512
-length-moved parity bytes old new h =
-    length-xors (xors (dataOf (blockOf bytes parity)) old) new ∙ length-xors (dataOf (blockOf bytes parity)) old
-    ∙ length-data (blockOf bytes parity) (length-span (520 * parity) 520 bytes h)
+pub length-moved : (F : Format) (parity : ℕ) (bytes old new : List ℕ) → F .blockLength * parity + F .blockLength ≤ length bytes
+    → length (xors (xors (dataOf F (blockOf F bytes parity)) old) new) ≡ F .dataLength
+length-moved F parity bytes old new h =
+    length-xors (xors (dataOf F (blockOf F bytes parity)) old) new ∙ length-xors (dataOf F (blockOf F bytes parity)) old
+    ∙ length-data F (blockOf F bytes parity) (length-span (F .blockLength * parity) (F .blockLength) bytes h)
+
+-- at the front of what is longer: a run written there, and others added
+pub front-put : (l vs : List ℕ) (n : ℕ) → length vs ≡ n → n ≤ length l → take n (sets l 0 vs) ≡ vs
+front-put l vs n long h = ap (take n) (sets-eq vs l 0 (omega arith)) ∙ take-at vs (drop (0 + length vs) l) n long
+
+pub front-xors : (l m : List ℕ) (n : ℕ) (whole : List ℕ) → take n l ≡ whole → length m ≡ n → take n (xors l m) ≡ xors whole m
+front-xors l m n whole e long = take-xors n l m ∙ ap₂ xors e (take-all n m (omega arith))
 
 -- as the code does it: copied, and added to twice
-pub moved-by-steps : (parity member : ℕ) (bytes new zeros copied cleared moved : List ℕ) → 520 * parity + 520 ≤ length bytes → length zeros ≡ 512
-    → copied ≡ sets zeros 0 (take (520 * parity + 512 - 520 * parity) (drop (520 * parity) bytes))
-    → cleared ≡ xors copied (take (520 * member + 512 - 520 * member) (drop (520 * member) bytes))
+pub moved-by-steps : (F : Format) (parity member p m size : ℕ) (bytes new zeros copied cleared moved : List ℕ) → F .blockLength * parity + F .blockLength ≤ length bytes
+    → F .blockLength * member + F .blockLength ≤ length bytes → length new ≡ F .dataLength → F .dataLength ≤ length zeros
+    → p ≡ F .blockLength * parity → m ≡ F .blockLength * member → size ≡ F .dataLength
+    → copied ≡ sets zeros 0 (take (p + size - p) (drop p bytes))
+    → cleared ≡ xors copied (take (m + size - m) (drop m bytes))
     → moved ≡ xors cleared new
-    → moved ≡ xors (xors (dataOf (blockOf bytes parity)) (dataOf (blockOf bytes member))) new
-moved-by-steps parity member bytes new zeros copied cleared moved h long e₁ e₂ e₃ =
-    e₃ ∙ ap (λ (x : List ℕ). xors x new) (e₂ ∙ ap₂ xors (filled-with-data parity bytes zeros copied h long e₁) (lent-data member bytes))
+    → take (F .dataLength) moved ≡ xors (xors (dataOf F (blockOf F bytes parity)) (dataOf F (blockOf F bytes member))) new
+moved-by-steps F parity member p m size bytes new zeros copied cleared moved h k long room ep em es e₁ e₂ e₃ =
+    let n = F .dataLength in
+    let of = dataOf F (blockOf F bytes parity) in
+    let own = dataOf F (blockOf F bytes member) in
+    let first : take n copied ≡ of =
+    ap (take n) (e₁ ∙ ap (sets zeros 0) (lent-data F parity p size bytes ep es))
+    ∙ front-put zeros of n (length-data F (blockOf F bytes parity) (length-span (F .blockLength * parity) (F .blockLength) bytes h)) room in
+    let second : take n cleared ≡ xors of own =
+    ap (take n) (e₂ ∙ ap (xors copied) (lent-data F member m size bytes em es))
+    ∙ front-xors copied own n of first (length-data F (blockOf F bytes member) (length-span (F .blockLength * member) (F .blockLength) bytes k)) in
+    ap (take n) e₃ ∙ front-xors cleared new n (xors of own) second long
 
 -- ---- the block at a place
 
@@ -116,19 +141,19 @@ module _ (a : Array) (stripe member : ℕ) (new bytes : List ℕ) where
 
   -- where the first block is written the second still lies in the stripe, and its data are long enough
   pub second-inside : (parity : ℕ) (moved once : List ℕ) → Inside a stripe member (length new) bytes → parity ≡ parityMember a stripe
-      → moved ≡ xors (xors (dataOf (blockOf bytes parity)) (dataOf (blockOf bytes member))) new → once ≡ withBlock bytes member (tagged a stripe member new)
-      → (length moved ≡ 512) × (520 * parity + 520 ≤ length once)
+      → moved ≡ xors (xors (dataOf (formatAt a) (blockOf (formatAt a) bytes parity)) (dataOf (formatAt a) (blockOf (formatAt a) bytes member))) new → once ≡ withBlock (formatAt a) bytes member (tagged a stripe member new)
+      → (length moved ≡ (formatAt a .dataLength)) × ((formatAt a .blockLength) * parity + (formatAt a .blockLength) ≤ length once)
   second-inside parity moved once h p m e =
-      let room : 520 * parity + 520 ≤ length bytes = omega arith in
-      let kept : length once ≡ length bytes = ap length e ∙ length-sets bytes (520 * member) (tagged a stripe member new) in
-      (ap length m ∙ length-moved parity bytes (dataOf (blockOf bytes member)) new room, omega arith)
+      let room : (formatAt a .blockLength) * parity + (formatAt a .blockLength) ≤ length bytes = rw p (h .parity) in
+      let kept : length once ≡ length bytes = ap length e ∙ length-sets bytes ((formatAt a .blockLength) * member) (tagged a stripe member new) in
+      (ap length m ∙ length-moved (formatAt a) parity bytes (dataOf (formatAt a) (blockOf (formatAt a) bytes member)) new room, omega (arith, room, kept))
 
   pub replace-refused : (number : ℕ) → number ≡ replaceRefusal a stripe member (length new) bytes → number ≢ 0 → Replaces number bytes
   replace-refused number e h = (e, rw (← e, ne-eqb number 0 h))
 
   pub replace-done : (number parity : ℕ) (moved once twice : List ℕ) → number ≡ replaceRefusal a stripe member (length new) bytes → number ≡ 0
-      → parity ≡ parityMember a stripe → moved ≡ xors (xors (dataOf (blockOf bytes parity)) (dataOf (blockOf bytes member))) new
-      → once ≡ withBlock bytes member (tagged a stripe member new) → twice ≡ withBlock once parity (tagged a stripe parity moved)
+      → parity ≡ parityMember a stripe → moved ≡ xors (xors (dataOf (formatAt a) (blockOf (formatAt a) bytes parity)) (dataOf (formatAt a) (blockOf (formatAt a) bytes member))) new
+      → once ≡ withBlock (formatAt a) bytes member (tagged a stripe member new) → twice ≡ withBlock (formatAt a) once parity (tagged a stripe parity moved)
       → Replaces 0 twice
   unfolding replaced
   replace-done number parity moved once twice e z p m e₁ e₂ = (sym z ∙ e, rw (← e, z, e₂, e₁, m, p))

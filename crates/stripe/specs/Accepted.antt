@@ -7,14 +7,14 @@ use lib.ListN.{length}
 use Rattle.layout.specs.Arrays.{dataMembers, stripeRefusal}
 use Rattle.layout.specs.Places.{parityMember, ownerRefusal}
 use Rattle.layout.specs.declared.Array.{Array}
-use Rattle.tag.specs.Blocks.{dataLength}
+use Rattle.tag.specs.Blocks.{formatAt}
 use Rattle.stripe.specs.Stripes.{stripeLength, othersGood}
 use Rattle.stripe.specs.Jobs.{storedGood}
 
 -- a seal
 pub record Fitting (a : Array) (stripe contentBytes stripeBytes : ℕ) : Type 0 where
   pub stripe-good : stripeRefusal a stripe ≡ 0
-  pub content-long : contentBytes ≡ dataLength * dataMembers a
+  pub content-long : contentBytes ≡ formatAt a .dataLength * dataMembers a
   pub stripe-long : stripeBytes ≡ stripeLength a
 
 -- a rebuild
@@ -26,6 +26,6 @@ pub record Sources (a : Array) (stripe member : ℕ) (bytes : List ℕ) : Type 0
 -- the replacement of the data of the block at a place
 pub record Replaceable (a : Array) (stripe member newBytes : ℕ) (bytes : List ℕ) : Type 0 where
   pub long : length bytes ≡ stripeLength a
-  pub size : newBytes ≡ dataLength
+  pub size : newBytes ≡ formatAt a .dataLength
   pub own-good : storedGood a stripe member bytes ≡ true
   pub parity-good : storedGood a stripe (parityMember a stripe) bytes ≡ true

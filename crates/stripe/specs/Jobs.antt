@@ -12,7 +12,8 @@ use Rattle.layout.specs.Answers.{refuse, after, answer}
 use Rattle.layout.specs.Arrays.{dataMembers, stripeRefusal, blockRefusal}
 use Rattle.layout.specs.Places.{parityMember, stripeOf, memberOf, indexAt, isParity, ownerRefusal}
 use Rattle.layout.specs.declared.Array.{Array}
-use Rattle.tag.specs.Blocks.{dataLength, blockLength, dataOf}
+use Rattle.format.specs.Formats.{Format}
+use Rattle.tag.specs.Blocks.{formatAt, dataOf}
 use Rattle.tag.specs.Tags.{good, tagged}
 use Rattle.stripe.specs.Tables.{table, joined, part}
 use Rattle.stripe.specs.Stripes.{stripeLength, blockOf, othersGood, othersData}
@@ -24,21 +25,21 @@ abbrev pub unlessRefused : ℕ → List ℕ → List ℕ → List ℕ
 unlessRefused refusal new old = cond (eqb refusal 0) new old
 
 -- a stripe with a member's block replaced
-abbrev pub withBlock : List ℕ → ℕ → List ℕ → List ℕ
-withBlock bytes member block = sets bytes (blockLength * member) block
+abbrev pub withBlock : Format → List ℕ → ℕ → List ℕ → List ℕ
+withBlock F bytes member block = sets bytes (F .blockLength * member) block
 
 -- ---- seal: a whole stripe from its data
 
 unfoldable pub sealRefusal : Array → ℕ → ℕ → ℕ → ℕ
 sealRefusal a stripe dataBytes stripeBytes =
-    after (stripeRefusal a stripe) (refuse (not (eqb dataBytes (dataLength * dataMembers a) && eqb stripeBytes (stripeLength a))) 6 0)
+    after (stripeRefusal a stripe) (refuse (not (eqb dataBytes ((formatAt a .dataLength) * dataMembers a) && eqb stripeBytes (stripeLength a))) 6 0)
 
 -- the parity of the data, and the data that a member gets
 abbrev pub parityOf : Array → List ℕ → List ℕ
-parityOf a bytes = combination dataLength (table (dataMembers a) (part dataLength bytes))
+parityOf a bytes = combination (formatAt a .dataLength) (table (dataMembers a) (part (formatAt a .dataLength) bytes))
 
 abbrev pub sealedData : Array → ℕ → List ℕ → ℕ → List ℕ
-sealedData a stripe bytes member = cond (isParity a stripe member) (parityOf a bytes) (part dataLength bytes (indexAt a stripe member))
+sealedData a stripe bytes member = cond (isParity a stripe member) (parityOf a bytes) (part (formatAt a .dataLength) bytes (indexAt a stripe member))
 
 unfoldable pub sealed : Array → ℕ → List ℕ → List ℕ
 sealed a stripe bytes = joined (table (a .members) (λ m. tagged a stripe m (sealedData a stripe bytes m)))
@@ -49,16 +50,16 @@ sealBytes a stripe bytes old = unlessRefused (sealRefusal a stripe (length bytes
 -- ---- read: a block's data, verified; stored, or rebuilt from the other members where the block is bad and they are good
 
 abbrev pub storedGood : Array → ℕ → ℕ → List ℕ → Bool
-storedGood a stripe member bytes = good a stripe member (blockOf bytes member)
+storedGood a stripe member bytes = good a stripe member (blockOf (formatAt a) bytes member)
 
 -- of the block at a place: refusals 6 and 9, and the data that are served
 unfoldable pub serveRefusal : Array → ℕ → ℕ → List ℕ → ℕ → ℕ
 serveRefusal a stripe member bytes outBytes =
-    refuse (not (eqb (length bytes) (stripeLength a) && eqb outBytes dataLength)) 6
+    refuse (not (eqb (length bytes) (stripeLength a) && eqb outBytes (formatAt a .dataLength))) 6
     (refuse (not (storedGood a stripe member bytes || othersGood a stripe member bytes)) 9 0)
 
 unfoldable pub servedData : Array → ℕ → ℕ → List ℕ → List ℕ
-servedData a stripe member bytes = cond (storedGood a stripe member bytes) (dataOf (blockOf bytes member)) (othersData (a .members) member bytes)
+servedData a stripe member bytes = cond (storedGood a stripe member bytes) (dataOf (formatAt a) (blockOf (formatAt a) bytes member)) (othersData (formatAt a) (a .members) member bytes)
 
 unfoldable pub readRefusal : Array → ℕ → List ℕ → ℕ → ℕ
 readRefusal a block bytes outBytes = after (blockRefusal a block) (serveRefusal a (stripeOf a block) (memberOf a block) bytes outBytes)
@@ -89,7 +90,7 @@ rebuildRefusal a stripe member bytes =
 
 -- the stripe with a member's block made from the others
 unfoldable pub rebuilt : Array → ℕ → ℕ → List ℕ → List ℕ
-rebuilt a stripe member bytes = withBlock bytes member (tagged a stripe member (othersData (a .members) member bytes))
+rebuilt a stripe member bytes = withBlock (formatAt a) bytes member (tagged a stripe member (othersData (formatAt a) (a .members) member bytes))
 
 unfoldable pub rebuildBytes : Array → ℕ → ℕ → List ℕ → List ℕ
 rebuildBytes a stripe member bytes = unlessRefused (rebuildRefusal a stripe member bytes) (rebuilt a stripe member bytes) bytes
@@ -99,14 +100,14 @@ rebuildBytes a stripe member bytes = unlessRefused (rebuildRefusal a stripe memb
 -- of the block at a place: refusals 6 and 9, and the stripe with the new data
 unfoldable pub replaceRefusal : Array → ℕ → ℕ → ℕ → List ℕ → ℕ
 replaceRefusal a stripe member newBytes bytes =
-    refuse (not (eqb (length bytes) (stripeLength a) && eqb newBytes dataLength)) 6
+    refuse (not (eqb (length bytes) (stripeLength a) && eqb newBytes (formatAt a .dataLength))) 6
     (refuse (not (storedGood a stripe member bytes && storedGood a stripe (parityMember a stripe) bytes)) 9 0)
 
 unfoldable pub replaced : Array → ℕ → ℕ → List ℕ → List ℕ → List ℕ
 replaced a stripe member new bytes =
     let parity = parityMember a stripe in
-    let parityData = xors (xors (dataOf (blockOf bytes parity)) (dataOf (blockOf bytes member))) new in
-    withBlock (withBlock bytes member (tagged a stripe member new)) parity (tagged a stripe parity parityData)
+    let parityData = xors (xors (dataOf (formatAt a) (blockOf (formatAt a) bytes parity)) (dataOf (formatAt a) (blockOf (formatAt a) bytes member))) new in
+    withBlock (formatAt a) (withBlock (formatAt a) bytes member (tagged a stripe member new)) parity (tagged a stripe parity parityData)
 
 unfoldable pub updateRefusal : Array → ℕ → ℕ → List ℕ → ℕ
 updateRefusal a block newBytes bytes = after (blockRefusal a block) (replaceRefusal a (stripeOf a block) (memberOf a block) newBytes bytes)

@@ -8,16 +8,17 @@ use lib.ListN.{length, getD}
 use Rattle.layout.specs.Answers.{refuse, after, answer}
 use Rattle.layout.specs.Arrays.{stripeRefusal}
 use Rattle.layout.specs.declared.Array.{Array}
-use Rattle.tag.specs.Blocks.{tagOf}
+use Rattle.format.specs.Formats.{Format}
+use Rattle.tag.specs.Blocks.{formatAt, tagOf}
 use Rattle.tag.specs.Tags.{found, due, fits}
 use Rattle.verdict.specs.Verdicts.{nonzero, judged}
 use Rattle.stripe.specs.Tables.{table}
 use Rattle.stripe.specs.Stripes.{stripeLength, blockOf}
-use Rattle.stripe.specs.Formats.{Summary, summaryOf, t10}
+use Rattle.stripe.specs.Formats.{Summary, summaryOf}
 
 -- which members are bad: their tag is not the one due to their guard at their place
 unfoldable pub badMembers : Array → ℕ → Summary → List Bool
-badMembers a stripe s = table (a .members) (λ m. not (fits (found (getD (s .tags) m [])) (due a stripe m (getD (s .guards) m 0))))
+badMembers a stripe s = table (a .members) (λ m. not (fits (found (formatAt a) (getD (s .tags) m [])) (due a stripe m (getD (s .guards) m 0))))
 
 -- which places of the combination are not zero
 unfoldable pub tornPlaces : Summary → List Bool
@@ -29,14 +30,14 @@ verdict a stripe s = judged (badMembers a stripe s) (tornPlaces s)
 -- ---- the full scrub of whole blocks, in member order, and of a stripe in memory
 
 abbrev pub scrubBlocks : Array → ℕ → List (List ℕ) → List ℕ
-scrubBlocks a stripe blocks = verdict a stripe (summaryOf t10 blocks)
+scrubBlocks a stripe blocks = verdict a stripe (summaryOf (formatAt a) blocks)
 
 unfoldable pub scrubRefusal : Array → ℕ → ℕ → ℕ
 scrubRefusal a stripe stripeBytes = after (stripeRefusal a stripe) (refuse (not (eqb stripeBytes (stripeLength a))) 6 0)
 
 unfoldable pub scrubNumbers : Array → ℕ → List ℕ → List ℕ
 scrubNumbers a stripe bytes =
-    answer (scrubRefusal a stripe (length bytes)) (scrubBlocks a stripe (table (a .members) (blockOf bytes)))
+    answer (scrubRefusal a stripe (length bytes)) (scrubBlocks a stripe (table (a .members) (blockOf (formatAt a) bytes)))
 
 -- ---- what a scrub is proved to tell
 
@@ -53,5 +54,5 @@ pub record FirstFailing (f : ℕ → Bool) (n m : ℕ) : Type 0 where
 -- ---- what the quick scrub is given
 
 -- the number in a block's guard bytes as they stand
-abbrev pub storedGuard : List ℕ → ℕ
-storedGuard block = found (tagOf block) .guard
+abbrev pub storedGuard : Format → List ℕ → ℕ
+storedGuard F block = found F (tagOf F block) .guard

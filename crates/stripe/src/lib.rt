@@ -13,22 +13,22 @@ pub use updating::update;
 ghost use mathlib.Core.Path.{_≡_};
 ghost use Prim.Native.Nat.{_+_, _-_, _*_, _≤_, _<_};
 ghost use mathlib.Core.Bool.{true};
-ghost use lib.ListN.{length, getD, set};
+ghost use lib.ListN.{length, getD, set, take};
 ghost use lib.Seq.{sets};
 ghost use Rattle.stripe.specs.Tables.{span};
 ghost use Rattle.layout.specs.Arrays.{stripeRefusal};
 ghost use Rattle.layout.specs.Places.{ownerRefusal};
-ghost use Rattle.crc.specs.Guard.{guard};
-ghost use Rattle.crc.specs.Blocks.{guardsOf};
-ghost use Rattle.tag.specs.Blocks.{dataOf};
+ghost use Rattle.format.specs.Formats.{guard, guardsOf};
+ghost use Rattle.format.specs.Methods.{formatOf};
+ghost use Rattle.tag.specs.Blocks.{formatAt, dataOf};
 ghost use Rattle.tag.specs.Tags.{good, tagged};
 ghost use Rattle.stripe.specs.Stripes.{stripeLength, blockOf, goodMembers, othersGood, othersData};
 ghost use Rattle.stripe.specs.Jobs.{withBlock};
+use copy::put;
+use format::METHOD;
 ghost use Rattle.stripe.specs.Steps.{saysGood};
 use layout::Array;
-use tag::BLOCK;
 use tag::Checked;
-use tag::DATA;
 
 // Bytes of a row: what stays in registers while the members go by.
 const ROW: usize = 128;
@@ -40,29 +40,25 @@ pub enum Reading {
     Rebuilt,
 }
 
-// Copies `src` into `dst` from a place on.
-fn put(dst: &mut [u8], at: usize, src: &[u8])
-    requires { ⌜ at + length (now src) ≤ length (now dst) ⌝ }
-    ensures { λ _. ⌜ now (dst .exit) ≡ sets (now (dst .entry)) at (now (src .entry)) ⌝ }
+// Where a member's block begins.
+fn block_at(method: u8, member: usize) -> usize
+    requires { ⌜ formatOf method .blockLength * member ≤ 18446744073709551615 ⌝ }
+    ensures { λ r. ⌜ r ≡ formatOf method .blockLength * member ⌝ }
 {
-    let mut i: usize = 0;
-    while i < src.len() {
-        dst[at + i] = src[i];
-        i += 1;
-    }
+    format::block_length(method) * member
 }
 
 // One row of the combined data of all members but `skip`.
-fn row(bytes: &[u8], members: usize, skip: usize, at: usize) -> [u8; 128]
-    requires { ⌜ 520 * members ≤ length (now bytes) ⌝ }
-    requires { ⌜ at + 128 ≤ 512 ⌝ }
-    ensures { λ r. ⌜ r ≡ span at 128 (othersData members skip (now (bytes .entry))) ⌝ }
+fn row(method: u8, bytes: &[u8], members: usize, skip: usize, at: usize) -> [u8; 128]
+    requires { ⌜ formatOf method .blockLength * members ≤ length (now bytes) ⌝ }
+    requires { ⌜ at + 128 ≤ formatOf method .dataLength ⌝ }
+    ensures { λ r. ⌜ r ≡ span at 128 (othersData (formatOf method) members skip (now (bytes .entry))) ⌝ }
 {
     let mut row = [0u8; 128];
     let mut member: usize = 0;
     while member < members {
         if member != skip {
-            let from = BLOCK * member + at;
+            let from = block_at(method, member) + at;
             let end = from + ROW;
             xor::xor_into(&mut row, &bytes[from..end]);
         }
@@ -72,14 +68,16 @@ fn row(bytes: &[u8], members: usize, skip: usize, at: usize) -> [u8; 128]
 }
 
 // The combined data of all members but `skip`, all of them where there is no such member: one pass over the members, row by row.
-fn combined(bytes: &[u8], members: usize, skip: usize, out: &mut [u8])
-    requires { ⌜ 520 * members ≤ length (now bytes) ⌝ }
-    requires { ⌜ length (now out) ≡ 512 ⌝ }
-    ensures { λ _. ⌜ now (out .exit) ≡ othersData members skip (now (bytes .entry)) ⌝ }
+// They are put at the front of `out`.
+fn combined(method: u8, bytes: &[u8], members: usize, skip: usize, out: &mut [u8])
+    requires { ⌜ formatOf method .blockLength * members ≤ length (now bytes) ⌝ }
+    requires { ⌜ formatOf method .dataLength ≤ length (now out) ⌝ }
+    ensures { λ _. ⌜ take (formatOf method .dataLength) (now (out .exit)) ≡ othersData (formatOf method) members skip (now (bytes .entry)) ⌝ }
 {
+    let data = format::data_length(method);
     let mut at: usize = 0;
-    while at < DATA {
-        let row = row(bytes, members, skip, at);
+    while at < data {
+        let row = row(method, bytes, members, skip, at);
         put(out, at, &row);
         at += ROW;
     }
@@ -110,24 +108,26 @@ fn says_good(checked: Checked) -> bool
 // Whether a member's block is good at its place.
 fn is_good(array: Array, stripe: u64, bytes: &[u8], member: usize) -> bool
     requires { ⌜ ownerRefusal array stripe member ≡ 0 ⌝ }
-    requires { ⌜ 520 * member + 520 ≤ length (now bytes) ⌝ }
-    ensures { λ r. ⌜ r ≡ good array stripe member (blockOf (now (bytes .entry)) member) ⌝ }
+    requires { ⌜ formatAt array .blockLength * member + formatAt array .blockLength ≤ length (now bytes) ⌝ }
+    ensures { λ r. ⌜ r ≡ good array stripe member (blockOf (formatAt array) (now (bytes .entry)) member) ⌝ }
 {
-    let from = BLOCK * member;
-    let end = from + BLOCK;
+    let method = METHOD;
+    let from = block_at(method, member);
+    let end = from + format::block_length(method);
     says_good(tag::check(array, stripe, member, &bytes[from..end]))
 }
 
 // The same, by the guard of the block's data.
-fn is_good_by(array: Array, stripe: u64, bytes: &[u8], member: usize, data_guard: u16) -> bool
+fn is_good_by(array: Array, stripe: u64, bytes: &[u8], member: usize, data_guard: u32) -> bool
     requires { ⌜ ownerRefusal array stripe member ≡ 0 ⌝ }
-    requires { ⌜ 520 * member + 520 ≤ length (now bytes) ⌝ }
-    requires { ⌜ data_guard ≡ guard (dataOf (blockOf (now bytes) member)) ⌝ }
-    ensures { λ r. ⌜ r ≡ good array stripe member (blockOf (now (bytes .entry)) member) ⌝ }
+    requires { ⌜ formatAt array .blockLength * member + formatAt array .blockLength ≤ length (now bytes) ⌝ }
+    requires { ⌜ data_guard ≡ guard (formatAt array) (dataOf (formatAt array) (blockOf (formatAt array) (now bytes) member)) ⌝ }
+    ensures { λ r. ⌜ r ≡ good array stripe member (blockOf (formatAt array) (now (bytes .entry)) member) ⌝ }
 {
-    let at = BLOCK * member + DATA;
+    let method = METHOD;
+    let at = block_at(method, member) + format::data_length(method);
     let expected = tag::due(array, stripe, member, data_guard);
-    tag::is_due(tag::found(tag::tag_within(bytes, at)), expected)
+    tag::is_due(tag::found(method, bytes, at), expected)
 }
 
 // Whether a member with this guard of its data is good, or is the one left out.
@@ -137,11 +137,11 @@ fn passes(
     bytes: &[u8],
     skip: usize,
     member: usize,
-    data_guard: u16,
+    data_guard: u32,
 ) -> bool
     requires { ⌜ ownerRefusal array stripe member ≡ 0 ⌝ }
-    requires { ⌜ 520 * member + 520 ≤ length (now bytes) ⌝ }
-    requires { ⌜ data_guard ≡ guard (dataOf (blockOf (now bytes) member)) ⌝ }
+    requires { ⌜ formatAt array .blockLength * member + formatAt array .blockLength ≤ length (now bytes) ⌝ }
+    requires { ⌜ data_guard ≡ guard (formatAt array) (dataOf (formatAt array) (blockOf (formatAt array) (now bytes) member)) ⌝ }
     ensures { λ r. ⌜ r ≡ getD (set (goodMembers array stripe (now (bytes .entry))) skip true) member true ⌝ }
 {
     if member == skip {
@@ -151,10 +151,10 @@ fn passes(
 }
 
 // Whether every member but `skip` is good, by the guards of the members' data.
-fn others_good(array: Array, stripe: u64, bytes: &[u8], skip: usize, guards: [u16; 16]) -> bool
+fn others_good(array: Array, stripe: u64, bytes: &[u8], skip: usize, guards: [u32; 16]) -> bool
     requires { ⌜ stripeRefusal array stripe ≡ 0 ⌝ }
     requires { ⌜ length (now bytes) ≡ stripeLength array ⌝ }
-    requires { ⌜ guards ≡ guardsOf 16 520 (now bytes) ⌝ }
+    requires { ⌜ guards ≡ guardsOf (formatAt array) 16 (formatAt array .blockLength) (now bytes) ⌝ }
     ensures { λ r. ⌜ r ≡ othersGood array stripe skip (now (bytes .entry)) ⌝ }
 {
     let members = array.members;
@@ -174,17 +174,19 @@ fn write_block(
     stripe: u64,
     member: usize,
     content: &[u8],
-    data_guard: u16,
+    data_guard: u32,
     bytes: &mut [u8],
 )
     requires { ⌜ ownerRefusal array stripe member ≡ 0 ⌝ }
-    requires { ⌜ length (now content) ≡ 512 ⌝ }
-    requires { ⌜ 520 * member + 520 ≤ length (now bytes) ⌝ }
-    requires { ⌜ data_guard ≡ guard (now content) ⌝ }
-    ensures { λ _. ⌜ now (bytes .exit) ≡ withBlock (now (bytes .entry)) member (tagged array stripe member (now (content .entry))) ⌝ }
+    requires { ⌜ length (now content) ≡ formatAt array .dataLength ⌝ }
+    requires { ⌜ formatAt array .blockLength * member + formatAt array .blockLength ≤ length (now bytes) ⌝ }
+    requires { ⌜ data_guard ≡ guard (formatAt array) (now content) ⌝ }
+    ensures { λ _. ⌜ now (bytes .exit) ≡ withBlock (formatAt array) (now (bytes .entry)) member (tagged array stripe member (now (content .entry))) ⌝ }
 {
-    let from = BLOCK * member;
-    let tag = tag::tag_bytes(tag::due(array, stripe, member, data_guard));
+    let method = METHOD;
+    let from = block_at(method, member);
+    let to = from + format::data_length(method);
+    let due = tag::due(array, stripe, member, data_guard);
     put(bytes, from, content);
-    put(bytes, from + DATA, &tag);
+    tag::write(method, due, bytes, to);
 }

@@ -2,18 +2,21 @@
 ghost use mathlib.Core.Path.{_≡_};
 ghost use Prim.Native.Nat.{_+_, _*_, _≤_};
 ghost use lib.ListN.{length};
-ghost use Rattle.crc.specs.Blocks.{guardsOf};
+ghost use Rattle.format.specs.Formats.{guardsOf};
+ghost use Rattle.tag.specs.Blocks.{formatAt};
 ghost use Rattle.stripe.specs.Jobs.{rebuildRefusal, rebuildBytes};
+use crate::block_at;
 use crate::combined;
 use crate::others_good;
 use crate::write_block;
+use format::METHOD;
+use format::MOST_DATA;
 use layout::Array;
-use tag::BLOCK;
-use verdict::combined_guards;
+use verdict::combined_wide;
 
 // The refusal number of a rebuild: the place's own, the stripe's length, then whether every other member is good by its guard.
-fn rebuild_refusal(array: Array, stripe: u64, member: usize, bytes: &[u8], guards: [u16; 16]) -> u8
-    requires { ⌜ guards ≡ guardsOf 16 520 (now bytes) ⌝ }
+fn rebuild_refusal(array: Array, stripe: u64, member: usize, bytes: &[u8], guards: [u32; 16]) -> u8
+    requires { ⌜ guards ≡ guardsOf (formatAt array) 16 (formatAt array .blockLength) (now bytes) ⌝ }
     ensures { λ r. ⌜ r ≡ rebuildRefusal array stripe member (now (bytes .entry)) ⌝ }
 {
     let refusal = layout::owner_refusal(array, stripe, member);
@@ -21,7 +24,7 @@ fn rebuild_refusal(array: Array, stripe: u64, member: usize, bytes: &[u8], guard
         return refusal;
     }
     let members = array.members;
-    if bytes.len() != BLOCK * members {
+    if bytes.len() != block_at(METHOD, members) {
         return 6;
     }
     if !others_good(array, stripe, bytes, member, guards) {
@@ -36,15 +39,18 @@ pub fn rebuild(array: Array, stripe: u64, member: usize, bytes: &mut [u8]) -> u8
     ensures { λ r. ⌜ r ≡ rebuildRefusal array stripe member (now (bytes .entry)) ⌝ }
     ensures { λ _. ⌜ now (bytes .exit) ≡ rebuildBytes array stripe member (now (bytes .entry)) ⌝ }
 {
-    let guards = fold::guards(bytes, BLOCK);
+    let method = METHOD;
+    let guards = format::guards(method, bytes, format::block_length(method));
     let refusal = rebuild_refusal(array, stripe, member, bytes, guards);
     if refusal != 0 {
         return refusal;
     }
     let members = array.members;
-    let mut content = [0u8; 512];
-    combined(bytes, members, member, &mut content);
-    let data_guard = combined_guards(&guards[0..members]) ^ guards[member];
-    write_block(array, stripe, member, &content, data_guard, bytes);
+    let data = format::data_length(method);
+    let mut content = [0u8; MOST_DATA];
+    combined(method, bytes, members, member, &mut content);
+    let others = combined_wide(&guards[0..members]) ^ guards[member];
+    let data_guard = others ^ format::blank_if_odd(method, members);
+    write_block(array, stripe, member, &content[0..data], data_guard, bytes);
     0
 }

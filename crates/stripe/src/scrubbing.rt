@@ -1,6 +1,7 @@
 // The full scrub of a stripe.
+use format::METHOD;
+use format::MOST_DATA;
 use layout::Array;
-use tag::BLOCK;
 use verdict::Scrubbed;
 ghost use mathlib.Core.Path.{_≡_};
 ghost use lib.ListN.{length};
@@ -20,7 +21,8 @@ fn bad_members(array: Array, stripe: u64, bytes: &[u8]) -> BadMembers
     ensures { λ r. ⌜ r .lowest ≡ lowest (badBlocks array stripe (now (bytes .entry))) ⌝ }
     ensures { λ r. ⌜ r .count ≡ count (badBlocks array stripe (now (bytes .entry))) ⌝ }
 {
-    let guards = fold::guards(bytes, BLOCK);
+    let method = METHOD;
+    let guards = format::guards(method, bytes, format::block_length(method));
     let mut lowest = array.members;
     let mut count: usize = 0;
     let mut member = array.members;
@@ -43,7 +45,7 @@ fn scrub_refusal(array: Array, stripe: u64, length: usize) -> u8
     if refusal != 0 {
         return refusal;
     }
-    if length != BLOCK * members {
+    if length != crate::block_at(METHOD, members) {
         return 6;
     }
     0
@@ -59,8 +61,10 @@ pub fn scrub(array: Array, stripe: u64, bytes: &[u8]) -> Scrubbed
     }
     let members = array.members;
     let bad = bad_members(array, stripe, bytes);
-    let mut data = [0u8; 512];
-    crate::combined(bytes, members, members, &mut data);
-    let verdict = verdict::judge(bad.lowest, bad.count, &data);
+    let method = METHOD;
+    let size = format::data_length(method);
+    let mut data = [0u8; MOST_DATA];
+    crate::combined(method, bytes, members, members, &mut data);
+    let verdict = verdict::judge(bad.lowest, bad.count, &data[0..size]);
     Scrubbed::Found(verdict)
 }

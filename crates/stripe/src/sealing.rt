@@ -1,20 +1,31 @@
 // A whole stripe made from its data.
 ghost use mathlib.Core.Path.{_≡_};
-ghost use Prim.Native.Nat.{_+_, _*_};
-ghost use lib.ListN.{length};
+ghost use Prim.Native.Nat.{_*_, _≤_};
+ghost use lib.ListN.{length, getD};
 ghost use mathlib.Core.Bool.{cond};
-ghost use Rattle.crc.specs.Blocks.{guardsOf};
+ghost use Rattle.format.specs.Formats.{guardsOf};
+ghost use Rattle.format.specs.Methods.{formatOf};
+ghost use Rattle.tag.specs.Blocks.{formatAt};
 ghost use Rattle.layout.specs.Arrays.{dataMembers, stripeRefusal};
-ghost use Rattle.layout.specs.Places.{ownerRefusal, isParity};
+ghost use Rattle.layout.specs.Places.{ownerRefusal, indexAt, isParity};
 ghost use Rattle.stripe.specs.Stripes.{stripeLength};
 ghost use Rattle.stripe.specs.Jobs.{withBlock, sealRefusal, sealBytes};
 ghost use Rattle.stripe.specs.Steps.{dataBlock, dataWritten};
+use crate::block_at;
 use crate::combined;
 use crate::write_block;
+use format::METHOD;
+use format::MOST_DATA;
 use layout::Array;
-use tag::BLOCK;
-use tag::DATA;
-use verdict::combined_guards;
+use verdict::combined_wide;
+
+// Where a member's part of the data begins.
+fn data_at(method: u8, index: usize) -> usize
+    requires { ⌜ formatOf method .dataLength * index ≤ 18446744073709551615 ⌝ }
+    ensures { λ r. ⌜ r ≡ formatOf method .dataLength * index ⌝ }
+{
+    format::data_length(method) * index
+}
 
 // The refusal number of a seal: the stripe's own, then the two lengths.
 fn seal_refusal(array: Array, stripe: u64, content: usize, length: usize) -> u8
@@ -25,58 +36,61 @@ fn seal_refusal(array: Array, stripe: u64, content: usize, length: usize) -> u8
         return refusal;
     }
     let members = array.members;
-    if content != DATA * (members - 1) {
+    let method = METHOD;
+    if content != data_at(method, members - 1) {
         return 6;
     }
-    if length != BLOCK * members {
+    if length != block_at(method, members) {
         return 6;
     }
     0
 }
 
-// Writes a member's block from its part of the data, and leaves the parity member's alone.
+// Writes a member's block from its part of the data, by the guard of that part, and leaves the parity member's alone.
 fn write_member(
     array: Array,
     stripe: u64,
     member: usize,
     content: &[u8],
-    guards: [u16; 16],
+    data_guard: u32,
     bytes: &mut [u8],
 )
     requires { ⌜ ownerRefusal array stripe member ≡ 0 ⌝ }
-    requires { ⌜ length (now content) ≡ 512 * dataMembers array ⌝ }
+    requires { ⌜ length (now content) ≡ formatAt array .dataLength * dataMembers array ⌝ }
     requires { ⌜ length (now bytes) ≡ stripeLength array ⌝ }
-    requires { ⌜ guards ≡ guardsOf 16 512 (now content) ⌝ }
-    ensures { λ _. ⌜ now (bytes .exit) ≡ cond (isParity array stripe member) (now (bytes .entry)) (withBlock (now (bytes .entry)) member (dataBlock array stripe (now (content .entry)) member)) ⌝ }
+    requires { ⌜ data_guard ≡ getD (guardsOf (formatAt array) 16 (formatAt array .dataLength) (now content)) (indexAt array stripe member) 0 ⌝ }
+    ensures { λ _. ⌜ now (bytes .exit) ≡ cond (isParity array stripe member) (now (bytes .entry)) (withBlock (formatAt array) (now (bytes .entry)) member (dataBlock array stripe (now (content .entry)) member)) ⌝ }
 {
     if member == layout::parity_member(array, stripe) {
         return;
     }
     let index = layout::index_at(array, stripe, member);
-    let from = DATA * index;
-    let end = from + DATA;
+    let method = METHOD;
+    let from = data_at(method, index);
+    let end = from + format::data_length(method);
     write_block(
         array,
         stripe,
         member,
         &content[from..end],
-        guards[index],
+        data_guard,
         bytes,
     );
 }
 
 // Writes the blocks of all data members, by the guards of the parts of the data.
-fn write_data(array: Array, stripe: u64, content: &[u8], guards: [u16; 16], bytes: &mut [u8])
+fn write_data(array: Array, stripe: u64, content: &[u8], guards: [u32; 16], bytes: &mut [u8])
     requires { ⌜ stripeRefusal array stripe ≡ 0 ⌝ }
-    requires { ⌜ length (now content) ≡ 512 * dataMembers array ⌝ }
+    requires { ⌜ length (now content) ≡ formatAt array .dataLength * dataMembers array ⌝ }
     requires { ⌜ length (now bytes) ≡ stripeLength array ⌝ }
-    requires { ⌜ guards ≡ guardsOf 16 512 (now content) ⌝ }
+    requires { ⌜ guards ≡ guardsOf (formatAt array) 16 (formatAt array .dataLength) (now content) ⌝ }
     ensures { λ _. ⌜ now (bytes .exit) ≡ dataWritten array stripe (now (content .entry)) (now (bytes .entry)) ⌝ }
 {
     let members = array.members;
     let mut member: usize = 0;
     while member < members {
-        write_member(array, stripe, member, content, guards, bytes);
+        let index = layout::index_at(array, stripe, member);
+        write_member(array, stripe, member, content, guards[index], bytes);
         member += 1;
     }
 }
@@ -91,13 +105,22 @@ pub fn seal(array: Array, stripe: u64, content: &[u8], bytes: &mut [u8]) -> u8
     if refusal != 0 {
         return refusal;
     }
-    let guards = fold::guards(content, DATA);
+    let method = METHOD;
+    let data = format::data_length(method);
+    let guards = format::guards(method, content, data);
     write_data(array, stripe, content, guards, bytes);
     let members = array.members;
     let parity = layout::parity_member(array, stripe);
-    let mut parity_data = [0u8; 512];
-    combined(bytes, members, parity, &mut parity_data);
-    let data_guard = combined_guards(&guards[0..members - 1]);
-    write_block(array, stripe, parity, &parity_data, data_guard, bytes);
+    let mut parity_data = [0u8; MOST_DATA];
+    combined(method, bytes, members, parity, &mut parity_data);
+    let data_guard = combined_wide(&guards[0..members - 1]) ^ format::blank_if_odd(method, members);
+    write_block(
+        array,
+        stripe,
+        parity,
+        &parity_data[0..data],
+        data_guard,
+        bytes,
+    );
     0
 }

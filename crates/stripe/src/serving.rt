@@ -8,14 +8,14 @@ ghost use Rattle.layout.specs.Answers.{answer};
 ghost use Rattle.layout.specs.Places.{ownerRefusal};
 ghost use Rattle.stripe.specs.Jobs.{storedGood, serveRefusal, servedData, unlessRefused, readNumbers, readingNumbers, readOut};
 use crate::Reading;
+use crate::block_at;
 use crate::combined;
 use crate::is_good;
 use crate::others_good;
-use crate::put;
+use copy::put;
+use format::METHOD;
 use layout::Array;
 use layout::Placed;
-use tag::BLOCK;
-use tag::DATA;
 
 // The data of the block at a place: its own where it is good, else those of the others where they are.
 fn serve(array: Array, stripe: u64, member: usize, bytes: &[u8], out: &mut [u8]) -> Reading
@@ -24,22 +24,24 @@ fn serve(array: Array, stripe: u64, member: usize, bytes: &[u8], out: &mut [u8])
     ensures { λ _. ⌜ now (out .exit) ≡ unlessRefused (serveRefusal array stripe member (now (bytes .entry)) (length (now (out .entry)))) (servedData array stripe member (now (bytes .entry))) (now (out .entry)) ⌝ }
 {
     let members = array.members;
-    if bytes.len() != BLOCK * members {
+    let method = METHOD;
+    if bytes.len() != block_at(method, members) {
         return Reading::Refused(6);
     }
-    if out.len() != DATA {
+    if out.len() != format::data_length(method) {
         return Reading::Refused(6);
     }
     if is_good(array, stripe, bytes, member) {
-        let from = BLOCK * member;
-        let end = from + DATA;
+        let from = block_at(method, member);
+        let end = from + format::data_length(method);
         put(out, 0, &bytes[from..end]);
         return Reading::Stored;
     }
-    if !others_good(array, stripe, bytes, member, fold::guards(bytes, BLOCK)) {
+    let guards = format::guards(method, bytes, format::block_length(method));
+    if !others_good(array, stripe, bytes, member, guards) {
         return Reading::Refused(9);
     }
-    combined(bytes, members, member, out);
+    combined(method, bytes, members, member, out);
     Reading::Rebuilt
 }
 

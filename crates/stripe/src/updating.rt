@@ -1,19 +1,21 @@
 // A block's data replaced in its stripe.
 ghost use mathlib.Core.Path.{_≡_};
 ghost use Prim.Native.Nat.{_+_, _*_, _≤_};
-ghost use lib.ListN.{length};
+ghost use lib.ListN.{length, take};
 ghost use Rattle.layout.specs.Places.{ownerRefusal};
 ghost use Rattle.stripe.specs.Stripes.{blockOf};
 ghost use Rattle.stripe.specs.Jobs.{replaceRefusal, replaced, unlessRefused, updateRefusal, updateBytes};
+ghost use Rattle.format.specs.Methods.{formatOf};
 ghost use Rattle.tag.specs.Blocks.{dataOf};
 ghost use Rattle.xor.specs.Xors.{xors};
+use crate::block_at;
 use crate::is_good;
-use crate::put;
 use crate::write_block;
+use copy::put;
+use format::METHOD;
+use format::MOST_DATA;
 use layout::Array;
 use layout::Placed;
-use tag::BLOCK;
-use tag::DATA;
 
 // The refusal number of a replacement: the lengths, then whether the block and the parity are good.
 fn replace_refusal(array: Array, stripe: u64, member: usize, content: usize, bytes: &[u8]) -> u8
@@ -21,10 +23,11 @@ fn replace_refusal(array: Array, stripe: u64, member: usize, content: usize, byt
     ensures { λ r. ⌜ r ≡ replaceRefusal array stripe member content (now (bytes .entry)) ⌝ }
 {
     let members = array.members;
-    if bytes.len() != BLOCK * members {
+    let method = METHOD;
+    if bytes.len() != block_at(method, members) {
         return 6;
     }
-    if content != DATA {
+    if content != format::data_length(method) {
         return 6;
     }
     if !is_good(array, stripe, bytes, member) {
@@ -38,17 +41,26 @@ fn replace_refusal(array: Array, stripe: u64, member: usize, content: usize, byt
 }
 
 // The parity's data with a member's old data taken out and the new put in.
-fn moved_parity(bytes: &[u8], parity: usize, member: usize, content: &[u8]) -> [u8; 512]
-    requires { ⌜ 520 * parity + 520 ≤ length (now bytes) ⌝ }
-    requires { ⌜ 520 * member + 520 ≤ length (now bytes) ⌝ }
-    ensures { λ r. ⌜ r ≡ xors (xors (dataOf (blockOf (now (bytes .entry)) parity)) (dataOf (blockOf (now (bytes .entry)) member))) (now (content .entry)) ⌝ }
+// They stand at the front.
+fn moved_parity(
+    method: u8,
+    bytes: &[u8],
+    parity: usize,
+    member: usize,
+    content: &[u8],
+) -> [u8; MOST_DATA]
+    requires { ⌜ formatOf method .blockLength * parity + formatOf method .blockLength ≤ length (now bytes) ⌝ }
+    requires { ⌜ formatOf method .blockLength * member + formatOf method .blockLength ≤ length (now bytes) ⌝ }
+    requires { ⌜ length (now content) ≡ formatOf method .dataLength ⌝ }
+    ensures { λ r. ⌜ take (formatOf method .dataLength) r ≡ xors (xors (dataOf (formatOf method) (blockOf (formatOf method) (now (bytes .entry)) parity)) (dataOf (formatOf method) (blockOf (formatOf method) (now (bytes .entry)) member))) (now (content .entry)) ⌝ }
 {
-    let mut data = [0u8; 512];
-    let from = BLOCK * parity;
-    let end = from + DATA;
+    let size = format::data_length(method);
+    let mut data = [0u8; MOST_DATA];
+    let from = block_at(method, parity);
+    let end = from + size;
     put(&mut data, 0, &bytes[from..end]);
-    let old = BLOCK * member;
-    let old_end = old + DATA;
+    let old = block_at(method, member);
+    let old_end = old + size;
     xor::xor_into(&mut data, &bytes[old..old_end]);
     xor::xor_into(&mut data, content);
     data
@@ -65,9 +77,13 @@ fn replace(array: Array, stripe: u64, member: usize, content: &[u8], bytes: &mut
         return refusal;
     }
     let parity = layout::parity_member(array, stripe);
-    let moved = moved_parity(bytes, parity, member, content);
-    write_block(array, stripe, member, content, fold::guard(content), bytes);
-    write_block(array, stripe, parity, &moved, fold::guard(&moved), bytes);
+    let method = METHOD;
+    let size = format::data_length(method);
+    let moved = moved_parity(method, bytes, parity, member, content);
+    let moved_guard = format::guard(method, &moved[0..size]);
+    let data_guard = format::guard(method, content);
+    write_block(array, stripe, member, content, data_guard, bytes);
+    write_block(array, stripe, parity, &moved[0..size], moved_guard, bytes);
     0
 }
 

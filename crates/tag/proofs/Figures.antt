@@ -6,10 +6,12 @@ use Prim.Native.Nat.{ℕ, _+_, _*_}
 use native.Mathlib.Omega.{arith}
 use lib.ListN.{length, getD}
 use lib.Seq.{drop-drop}
-use Rattle.layout.specs.Places.{parityMember, lowestBlock, blockAt, indexAt, referenceOf}
+use Rattle.format.specs.Methods.{formatOf}
+use Rattle.layout.specs.Arrays.{arrayOf}
+use Rattle.layout.specs.Places.{parityMember, lowestBlock, blockAt, indexAt, blockNamed, referenceOf}
 use Rattle.layout.specs.declared.Array.{Array}
 use Rattle.tag.specs.Numbers.{bytesOf}
-use Rattle.tag.specs.Blocks.{blockLength, tagOf}
+use Rattle.tag.specs.Blocks.{tagOf}
 use Rattle.tag.specs.Tags.{tagBytes, found, applicationDue, referenceDue, due, firstWrong, checkedNumbers}
 use Rattle.tag.specs.declared.Fields.{Fields}
 use Rattle.tag.specs.declared.Checked.the-variants.{Good, Guard, Application, Reference}
@@ -18,36 +20,36 @@ use Rattle.tag.proofs.Numbers.{take-elements, number-of-two, number-of-
 -- ---- the sealed stripe of the outline: three members, volume 7, stripe 0; its parity, then its two blocks
 
 abbrev three : Array
-three = record { members = 3; stripes = 1; volume = 7 }
+three = arrayOf 3 1 7
 
-pub sealed-tags : (tagBytes (due three 0 0 0x176E) ≡ 0x17 ∷ 0x6E ∷ 0x80 ∷ 0x07 ∷ 0x00 ∷ 0x00 ∷ 0x00 ∷ 0x00 ∷ [])
-    × (tagBytes (due three 0 1 0x8BB7) ≡ 0x8B ∷ 0xB7 ∷ 0x00 ∷ 0x07 ∷ 0x00 ∷ 0x00 ∷ 0x00 ∷ 0x00 ∷ [])
-    × (tagBytes (due three 0 2 0x9CD9) ≡ 0x9C ∷ 0xD9 ∷ 0x00 ∷ 0x07 ∷ 0x00 ∷ 0x00 ∷ 0x00 ∷ 0x01 ∷ [])
-unfolding tagBytes due applicationDue referenceDue referenceOf lowestBlock blockAt indexAt parityMember bytesOf
+pub sealed-tags : (tagBytes (formatOf 1) (due three 0 0 0x176E) ≡ 0x17 ∷ 0x6E ∷ 0x80 ∷ 0x07 ∷ 0x00 ∷ 0x00 ∷ 0x00 ∷ 0x00 ∷ [])
+    × (tagBytes (formatOf 1) (due three 0 1 0x8BB7) ≡ 0x8B ∷ 0xB7 ∷ 0x00 ∷ 0x07 ∷ 0x00 ∷ 0x00 ∷ 0x00 ∷ 0x00 ∷ [])
+    × (tagBytes (formatOf 1) (due three 0 2 0x9CD9) ≡ 0x9C ∷ 0xD9 ∷ 0x00 ∷ 0x07 ∷ 0x00 ∷ 0x00 ∷ 0x00 ∷ 0x01 ∷ [])
+unfolding formatOf tagBytes due applicationDue referenceDue referenceOf blockNamed lowestBlock blockAt indexAt parityMember bytesOf
 sealed-tags = (refl, refl, refl)
 
 -- ---- far out: five members, stripe 65,536, whose parity is on member 1
 
 abbrev five : Array
-five = record { members = 5; stripes = 268435456; volume = 0 }
+five = arrayOf 5 268435456 0
 
-pub far-parity : tagBytes (due five 65536 1 0) ≡ 0x00 ∷ 0x00 ∷ 0x80 ∷ 0x00 ∷ 0x00 ∷ 0x04 ∷ 0x00 ∷ 0x00 ∷ []
-unfolding tagBytes due applicationDue referenceDue referenceOf lowestBlock blockAt indexAt parityMember bytesOf
+pub far-parity : tagBytes (formatOf 1) (due five 65536 1 0) ≡ 0x00 ∷ 0x00 ∷ 0x80 ∷ 0x00 ∷ 0x00 ∷ 0x04 ∷ 0x00 ∷ 0x00 ∷ []
+unfolding formatOf tagBytes due applicationDue referenceDue referenceOf blockNamed lowestBlock blockAt indexAt parityMember bytesOf
 far-parity = refl
 
 -- ---- a whole block: bytes 512 and 513 are its guard, 514 and 515 its application tag, 516 to 519 its reference tag, each with the highest first
 
-module _ (block : List ℕ) (long : length block ≡ blockLength) where
-  pub guard-stands : found (tagOf block) .guard ≡ getD block 512 0 * 256 + getD block 513 0
-  unfolding found tagOf
+module _ (block : List ℕ) (long : length block ≡ formatOf 1 .blockLength) where
+  pub guard-stands : found (formatOf 1) (tagOf (formatOf 1) block) .guard ≡ getD block 512 0 * 256 + getD block 513 0
+  unfolding formatOf found tagOf
   guard-stands = rw (take-elements block 512 0 2 (omega arith)) (number-of-two (getD block 512 0) (getD block 513 0))
 
-  pub application-stands : found (tagOf block) .application ≡ getD block 514 0 * 256 + getD block 515 0
-  unfolding found tagOf
+  pub application-stands : found (formatOf 1) (tagOf (formatOf 1) block) .application ≡ getD block 514 0 * 256 + getD block 515 0
+  unfolding formatOf found tagOf
   application-stands = rw (drop-drop 2 512 block, take-elements block 514 0 2 (omega arith)) (number-of-two (getD block 514 0) (getD block 515 0))
 
-  pub reference-stands : found (tagOf block) .reference ≡ (getD block 516 0 * 256 + getD block 517 0) * 65536 + (getD block 518 0 * 256 + getD block 519 0)
-  unfolding found tagOf
+  pub reference-stands : found (formatOf 1) (tagOf (formatOf 1) block) .reference ≡ (getD block 516 0 * 256 + getD block 517 0) * 65536 + (getD block 518 0 * 256 + getD block 519 0)
+  unfolding formatOf found tagOf
   reference-stands =
       rw (drop-drop 4 512 block, take-elements block 516 0 4 (omega arith))
       (number-of-four (getD block 516 0) (getD block 517 0) (getD block 518 0) (getD block 519 0))

@@ -1,40 +1,41 @@
 -- One place only: two places of an array at which the same block is good are the same place.
 -- The application tag tells parity from data, and the reference tag tells which of them. Assumes nothing.
-use mathlib.Core.Path.{_≡_, sym, ap, _∙_}
-use mathlib.Core.Bool.{true}
-use mathlib.Core.List.{List, [], _∷_}
-use Prim.Native.Nat.{ℕ}
-use native.Mathlib.Decide.{ℕ-discrete}
+use mathlib.Core.Path.{_≡_, refl, sym, ap, _∙_}
+use mathlib.Core.Bool.{Bool, true, false, cond}
+use mathlib.Core.List.{List}
+use Prim.Native.Nat.{ℕ, _+_, _*_, _<_}
+use native.Mathlib.Nat.{add-mul}
 use native.Mathlib.Omega.{arith}
-use Rattle.crc.specs.Guard.{guard}
-use Rattle.layout.specs.Places.{parityMember, referenceOf, ownerRefusal, ownerNumbers}
+use Rattle.format.specs.Formats.{guard}
+use Rattle.format.proofs.Sizes.{scale-some}
+use Rattle.layout.specs.Places.{isParity, blockNamed, ownerRefusal}
 use Rattle.layout.specs.declared.Array.{Array}
-use Rattle.layout.proofs.Numbers.{owner-of-parity, owner-of-data}
-use Rattle.layout.proofs.Bijection.{owner-injective}
-use Rattle.tag.specs.Blocks.{dataOf}
-use Rattle.tag.specs.Tags.{due, good}
+use Rattle.layout.proofs.Ranges.{sound-block}
+use Rattle.layout.proofs.Bijection.{named-sound, named-injective}
+use Rattle.layout.proofs.References.{reference-injective}
+use Rattle.tag.specs.Blocks.{formatAt, dataOf}
+use Rattle.tag.specs.Tags.{applicationDue, referenceDue, due, good}
 use Rattle.tag.specs.declared.Fields.{Fields}
-use Rattle.tag.proofs.Expected.{due-of-parity, due-of-data}
 use Rattle.tag.proofs.Fits.{good-fields}
+
+-- the mark in the application tag tells the kind
+marks : (x y : Bool) (v scale : ℕ) → 0 < scale → (cond x 0x8000 0 + v) * scale ≡ (cond y 0x8000 0 + v) * scale → x ≡ y
+marks true true v scale h e = refl
+marks true false v scale h e = absurd (omega (arith, add-mul 0x8000 v scale, add-mul 0 v scale))
+marks false true v scale h e = absurd (omega (arith, add-mul 0x8000 v scale, add-mul 0 v scale))
+marks false false v scale h e = refl
 
 module _ (a : Array) (s m t k : ℕ) (here : ownerRefusal a s m ≡ 0) (there : ownerRefusal a t k ≡ 0) where
   -- what is due at a place tells the place
   pub due-injective : (g : ℕ) → due a s m g ≡ due a t k g → (s ≡ t) × (m ≡ k)
-  unfolding referenceOf
-  due-injective g same = owner-injective a s m t k here there (by-kind (ℕ-discrete m (parityMember a s)) (ℕ-discrete k (parityMember a t)))
-    where
-      by-kind : Dec (m ≡ parityMember a s) → Dec (k ≡ parityMember a t) → ownerNumbers a s m ≡ ownerNumbers a t k
-      by-kind (yes p) (yes q) =
-          let e = sym (due-of-parity a s m g p) ∙ same ∙ due-of-parity a t k g q in
-          owner-of-parity a s m here p ∙ ap (λ (f : Fields). 1 ∷ 0 ∷ 1 ∷ f .reference ∷ []) e ∙ sym (owner-of-parity a t k there q)
-      by-kind (yes p) (no q) =
-          let e = ap (λ (f : Fields). f .application) (sym (due-of-parity a s m g p) ∙ same ∙ due-of-data a t k g q) in absurd (omega (arith, e))
-      by-kind (no p) (yes q) =
-          let e = ap (λ (f : Fields). f .application) (sym (due-of-data a s m g p) ∙ same ∙ due-of-parity a t k g q) in absurd (omega (arith, e))
-      by-kind (no p) (no q) =
-          let e = sym (due-of-data a s m g p) ∙ same ∙ due-of-data a t k g q in
-          owner-of-data a s m here p ∙ ap (λ (f : Fields). 1 ∷ 0 ∷ 0 ∷ f .reference ∷ []) e ∙ sym (owner-of-data a t k there q)
+  unfolding due applicationDue referenceDue
+  due-injective g same =
+      let x = blockNamed a s m in
+      let y = blockNamed a t k in
+      named-injective a s m t k here there
+      (marks (isParity a s m) (isParity a t k) (a .volume) (formatAt a .scale) (scale-some (formatAt a)) (ap (λ (f : Fields). f .application) same))
+      (reference-injective a x y (sound-block a x (named-sound a s m here)) (sound-block a y (named-sound a t k there)) (ap (λ (f : Fields). f .reference) same))
 
   pub one-place : (block : List ℕ) → good a s m block ≡ true → good a t k block ≡ true → (s ≡ t) × (m ≡ k)
   one-place block g h =
-      due-injective (guard (dataOf block)) (sym (good-fields a s m block g) ∙ good-fields a t k block h)
+      due-injective (guard (formatAt a) (dataOf (formatAt a) block)) (sym (good-fields a s m block g) ∙ good-fields a t k block h)

@@ -1,44 +1,55 @@
 -- The tag of a block: guard, application tag and reference tag, in this order; which are due at a place, and the check of a block.
 -- Assumes nothing.
-use Prim.Native.Nat.{ℕ, _+_, _^_, _<_}
+use Prim.Native.Nat.{ℕ, _+_, _*_, _^_, _<_}
 use mathlib.Core.Bool.{Bool, not, cond, _&&_}
 use mathlib.Core.List.{List, [], _∷_, _++_}
 use lib.Dec.{leb, eqb}
 use lib.ListN.{length, take, drop, replicate}
-use Rattle.crc.specs.Guard.{guard}
+use lib.Seq.{sets}
+use Rattle.format.specs.Formats.{Format, guard}
 use Rattle.layout.specs.Answers.{refuse, after, answer}
-use Rattle.layout.specs.Places.{lowestBlock, blockAt, indexAt, isParity, referenceOf, ownerRefusal}
+use Rattle.layout.specs.Places.{isParity, blockNamed, referenceOf, ownerRefusal}
 use Rattle.layout.specs.declared.Array.{Array}
 use Rattle.tag.specs.Numbers.{bytesOf, numberOf}
-use Rattle.tag.specs.Blocks.{tagLength, blockLength, dataOf, tagOf}
+use Rattle.tag.specs.Blocks.{formatAt, dataOf, tagOf}
 use Rattle.tag.specs.declared.Fields.{Fields}
 use Rattle.tag.specs.declared.Checked.{Checked}
 use Rattle.tag.specs.declared.Checked.the-variants.{Refused, Good, Guard, Application, Reference}
 
--- the fields fit their bytes
-pub record Fit (f : Fields) : Type 0 where
-  pub guard-fits : f .guard < 2 ^ 16
-  pub application-fits : f .application < 2 ^ 16
-  pub reference-fits : f .reference < 2 ^ 32
+module _ (F : Format) where
+  -- the fields fit their bytes
+  pub record Fit (f : Fields) : Type 0 where
+    pub guard-fits : f .guard < 256 ^ F .quarter
+    pub application-fits : f .application < 256 ^ F .quarter
+    pub reference-fits : f .reference < 256 ^ (2 * F .quarter)
 
--- the eight bytes of three fields, and the fields in a tag's bytes
-unfoldable pub tagBytes : Fields → List ℕ
-tagBytes f = bytesOf 2 (f .guard) ++ bytesOf 2 (f .application) ++ bytesOf 4 (f .reference)
+  -- the bytes of three fields, and the fields in a tag's bytes: a quarter of the tag is the guard's, one the application tag's, two the reference tag's
+  unfoldable pub tagBytes : Fields → List ℕ
+  tagBytes f = bytesOf (F .quarter) (f .guard) ++ bytesOf (F .quarter) (f .application) ++ bytesOf (2 * F .quarter) (f .reference)
 
-unfoldable pub found : List ℕ → Fields
-found tag = record { guard = numberOf (take 2 tag); application = numberOf (take 2 (drop 2 tag)); reference = numberOf (take 4 (drop 4 tag)) }
+  unfoldable pub found : List ℕ → Fields
+  found tag =
+      record {
+        guard = numberOf (take (F .quarter) tag);
+        application = numberOf (take (F .quarter) (drop (F .quarter) tag));
+        reference = numberOf (take (2 * F .quarter) (drop (2 * F .quarter) tag));
+      }
 
--- the eight bytes at a place of some bytes; zeros where they do not all lie there
-unfoldable pub tagWithin : List ℕ → ℕ → List ℕ
-tagWithin bytes at = cond (leb (at + tagLength) (length bytes)) (take tagLength (drop at bytes)) (replicate tagLength 0)
+  -- the bytes of a tag at a place of some bytes; zeros where they do not all lie there
+  unfoldable pub tagWithin : List ℕ → ℕ → List ℕ
+  tagWithin bytes at = cond (leb (at + F .tagLength) (length bytes)) (take (F .tagLength) (drop at bytes)) (replicate (F .tagLength) 0)
 
--- the application tag: 80h marks a parity block, then the volume
+  -- bytes with a tag written at a place; as they were where it does not all lie there
+  unfoldable pub tagWritten : Fields → List ℕ → ℕ → List ℕ
+  tagWritten f bytes at = cond (leb (at + F .tagLength) (length bytes)) (sets bytes at (tagBytes f)) bytes
+
+-- the application tag: 80h marks a parity block, then the volume; what follows in its field is zero
 unfoldable pub applicationDue : Array → ℕ → ℕ → ℕ
-applicationDue a stripe member = cond (isParity a stripe member) 0x8000 0 + a .volume
+applicationDue a stripe member = (cond (isParity a stripe member) 0x8000 0 + a .volume) * formatAt a .scale
 
--- the reference tag: the block's number, and for the parity the lowest one of its stripe
+-- the reference tag: that of the block number by which the place is named
 unfoldable pub referenceDue : Array → ℕ → ℕ → ℕ
-referenceDue a stripe member = referenceOf (cond (isParity a stripe member) (lowestBlock a stripe) (blockAt a stripe (indexAt a stripe member)))
+referenceDue a stripe member = referenceOf (blockNamed a stripe member)
 
 -- the fields due at a place to a block whose data have this guard
 unfoldable pub due : Array → ℕ → ℕ → ℕ → Fields
@@ -63,23 +74,23 @@ fits f e = eqb (f .guard) (e .guard) && eqb (f .application) (e .application) &&
 
 -- a block is good at a place, or bad
 unfoldable pub good : Array → ℕ → ℕ → List ℕ → Bool
-good a stripe member block = fits (found (tagOf block)) (due a stripe member (guard (dataOf block)))
+good a stripe member block = fits (found (formatAt a) (tagOf (formatAt a) block)) (due a stripe member (guard (formatAt a) (dataOf (formatAt a) block)))
 
 abbrev pub bad : Array → ℕ → ℕ → List ℕ → Bool
 bad a stripe member block = not (good a stripe member block)
 
 -- data with the tag due to them at a place
 unfoldable pub tagged : Array → ℕ → ℕ → List ℕ → List ℕ
-tagged a stripe member bytes = bytes ++ tagBytes (due a stripe member (guard bytes))
+tagged a stripe member bytes = bytes ++ tagBytes (formatAt a) (due a stripe member (guard (formatAt a) bytes))
 
 -- ---- check, in numbers: which field is wrong, found, expected
 
 unfoldable pub checkRefusal : Array → ℕ → ℕ → ℕ → ℕ
-checkRefusal a stripe member blockBytes = after (ownerRefusal a stripe member) (refuse (not (eqb blockBytes blockLength)) 6 0)
+checkRefusal a stripe member blockBytes = after (ownerRefusal a stripe member) (refuse (not (eqb blockBytes (formatAt a .blockLength))) 6 0)
 
 unfoldable pub checkNumbers : Array → ℕ → ℕ → List ℕ → List ℕ
 checkNumbers a stripe member block =
-    answer (checkRefusal a stripe member (length block)) (firstWrong (found (tagOf block)) (due a stripe member (guard (dataOf block))))
+    answer (checkRefusal a stripe member (length block)) (firstWrong (found (formatAt a) (tagOf (formatAt a) block)) (due a stripe member (guard (formatAt a) (dataOf (formatAt a) block))))
 
 abbrev pub checkedNumbers : Checked → List ℕ
 checkedNumbers (Refused number) = 0 ∷ number ∷ 0 ∷ 0 ∷ 0 ∷ []

@@ -1,86 +1,177 @@
 // The tag of a block: what is due at a place, and a block checked against it.
+use format::METHOD;
 use layout::Array;
 use layout::Owned;
 ghost use mathlib.Core.Path.{_≡_};
 ghost use mathlib.Core.List.{_∷_};
-ghost use Prim.Native.Nat.{_+_, _*_, _≤_};
+ghost use Prim.Native.Nat.{_+_, _*_, _/_, _%_, _^_, _<_, _≤_};
 ghost use lib.ListN.{length, take, drop};
-ghost use Rattle.tag.specs.Tags.{tagBytes, tagWithin, found, dueAt, fits, firstWrong, checkRefusal, checkNumbers, checkedNumbers};
-
-// Bytes of data in a block, of tag after them, and of both.
-pub const DATA: usize = 512;
-
-pub const TAG: usize = 8;
-
-pub const BLOCK: usize = DATA + TAG;
+ghost use lib.Seq.{sets};
+ghost use Rattle.format.specs.Methods.{formatOf};
+ghost use Rattle.tag.specs.Numbers.{bytesOf, numberOf};
+ghost use Rattle.tag.specs.Tags.{tagWithin, tagWritten, found, dueAt, fits, firstWrong, checkRefusal, checkNumbers, checkedNumbers};
 
 // What marks a parity block in its application tag, above the volume.
 const PARITY: u16 = 0x8000;
 
 // The three fields of a tag.
 pub struct Fields {
-    pub guard: u16,
-    pub application: u16,
-    pub reference: u32,
+    pub guard: u64,
+    pub application: u64,
+    pub reference: u64,
 }
 
 // What a check of a block says: good, or the first field that is wrong, as found and as expected.
 pub enum Checked {
     Refused(u8),
     Good,
-    Guard { found: u16, expected: u16 },
-    Application { found: u16, expected: u16 },
-    Reference { found: u32, expected: u32 },
+    Guard { found: u64, expected: u64 },
+    Application { found: u64, expected: u64 },
+    Reference { found: u64, expected: u64 },
 }
 
-// Two bytes as a number, and two halves: the highest first.
+// Two bytes as a number: the highest first.
 pub fn pair(high: u8, low: u8) -> u16
     ensures { λ r. ⌜ r ≡ high * 256 + low ⌝ }
 {
     high as u16 * 256 + low as u16
 }
 
-fn halves(high: u16, low: u16) -> u32
-    ensures { λ r. ⌜ r ≡ high * 65536 + low ⌝ }
+// One byte more of a number.
+fn more(number: u64, byte: u8) -> u64
+    requires { ⌜ number < 72057594037927936 ⌝ }
+    ensures { λ r. ⌜ r ≡ number * 256 + byte ⌝ }
 {
-    high as u32 * 65536 + low as u32
+    number * 256 + byte as u64
 }
 
-// The fields in a tag's eight bytes.
-pub fn found(tag: [u8; 8]) -> Fields
-    ensures { λ r. ⌜ r ≡ found tag ⌝ }
+// The number in `count` bytes from a place on, the highest first.
+fn number(bytes: &[u8], at: usize, count: usize) -> u64
+    requires { ⌜ at + count ≤ length (now bytes) ⌝ }
+    requires { ⌜ count ≤ 8 ⌝ }
+    ensures { λ r. ⌜ r ≡ numberOf (take count (drop at (now (bytes .entry)))) ⌝ }
 {
-    Fields {
-        guard: pair(tag[0], tag[1]),
-        application: pair(tag[2], tag[3]),
-        reference: halves(pair(tag[4], tag[5]), pair(tag[6], tag[7])),
+    let mut number: u64 = 0;
+    let mut i: usize = 0;
+    while i < count {
+        number = more(number, bytes[at + i]);
+        i += 1;
+    }
+    number
+}
+
+// The byte of a number that has so many below it.
+fn byte_above(number: u64, below: usize) -> u8
+    requires { ⌜ below < 8 ⌝ }
+    ensures { λ r. ⌜ r ≡ number / 256 ^ below % 256 ⌝ }
+{
+    let shift = 8 * below;
+    ((number >> shift) % 256) as u8
+}
+
+// Writes the low `count` bytes of a number from a place on, the highest first.
+fn put_number(bytes: &mut [u8], at: usize, count: usize, number: u64)
+    requires { ⌜ at + count ≤ length (now bytes) ⌝ }
+    requires { ⌜ count ≤ 8 ⌝ }
+    ensures { λ _. ⌜ now (bytes .exit) ≡ sets (now (bytes .entry)) at (bytesOf count number) ⌝ }
+{
+    let mut left = count;
+    let mut to = at;
+    while 0 < left {
+        left -= 1;
+        bytes[to] = byte_above(number, left);
+        to += 1;
     }
 }
 
-// The eight bytes of a tag, each field with its highest byte first.
-pub fn tag_bytes(fields: Fields) -> [u8; 8]
-    ensures { λ r. ⌜ r ≡ tagBytes fields ⌝ }
+// The same of two bytes, without a loop.
+fn put_two(bytes: &mut [u8], at: usize, number: u64)
+    requires { ⌜ at + 2 ≤ length (now bytes) ⌝ }
+    ensures { λ _. ⌜ now (bytes .exit) ≡ sets (now (bytes .entry)) at (bytesOf 2 number) ⌝ }
 {
+    bytes[at] = byte_above(number, 1);
+    bytes[at + 1] = byte_above(number, 0);
+}
+
+// The same of any count: short numbers, which the tags of small blocks hold, go without a loop.
+fn put_field(bytes: &mut [u8], at: usize, count: usize, number: u64)
+    requires { ⌜ at + count ≤ length (now bytes) ⌝ }
+    requires { ⌜ count ≤ 8 ⌝ }
+    ensures { λ _. ⌜ now (bytes .exit) ≡ sets (now (bytes .entry)) at (bytesOf count number) ⌝ }
+{
+    if count == 2 {
+        put_two(bytes, at, number);
+        return;
+    }
+    if count == 4 {
+        put_two(bytes, at, number / 65536);
+        put_two(bytes, at + 2, number);
+        return;
+    }
+    put_number(bytes, at, count, number);
+}
+
+// The fields of a tag that begins at a place of a slice; zeros where it does not all lie there.
+pub fn found(method: u8, bytes: &[u8], at: usize) -> Fields
+    ensures { λ r. ⌜ r ≡ found (formatOf method) (tagWithin (formatOf method) (now (bytes .entry)) at) ⌝ }
+{
+    let tag = format::tag_length(method);
+    let quarter = format::quarter(method);
+    let length = bytes.len();
+    if length < tag {
+        return Fields {
+            guard: 0,
+            application: 0,
+            reference: 0,
+        };
+    }
+    if length - tag < at {
+        return Fields {
+            guard: 0,
+            application: 0,
+            reference: 0,
+        };
+    }
+    let second = at + quarter;
+    let half = 2 * quarter;
+    let third = at + half;
+    Fields {
+        guard: number(bytes, at, quarter),
+        application: number(bytes, second, quarter),
+        reference: number(bytes, third, half),
+    }
+}
+
+// Writes a tag at a place of a slice, each field with its highest byte first; nothing where it does not all lie there.
+pub fn write(method: u8, fields: Fields, bytes: &mut [u8], at: usize)
+    ensures { λ _. ⌜ now (bytes .exit) ≡ tagWritten (formatOf method) fields (now (bytes .entry)) at ⌝ }
+{
+    let tag = format::tag_length(method);
+    let quarter = format::quarter(method);
     let guard = fields.guard;
     let application = fields.application;
     let reference = fields.reference;
-    [
-        (guard / 256) as u8,
-        (guard % 256) as u8,
-        (application / 256) as u8,
-        (application % 256) as u8,
-        (reference / 16777216) as u8,
-        (reference / 65536 % 256) as u8,
-        (reference / 256 % 256) as u8,
-        (reference % 256) as u8,
-    ]
+    let length = bytes.len();
+    if length < tag {
+        return;
+    }
+    if length - tag < at {
+        return;
+    }
+    let second = at + quarter;
+    let half = 2 * quarter;
+    let third = at + half;
+    put_field(bytes, at, quarter, guard);
+    put_field(bytes, second, quarter, application);
+    put_field(bytes, third, half, reference);
 }
 
 // The fields due at a place to a block whose data have this guard; zeros where there is no such place.
-pub fn due(array: Array, stripe: u64, member: usize, guard: u16) -> Fields
+pub fn due(array: Array, stripe: u64, member: usize, guard: u32) -> Fields
     ensures { λ r. ⌜ r ≡ dueAt array stripe member guard ⌝ }
 {
     let volume = array.volume as u16;
+    let method = METHOD;
     let owned = layout::owner(array, stripe, member);
     match owned {
         Owned::Refused(_) => Fields {
@@ -89,19 +180,20 @@ pub fn due(array: Array, stripe: u64, member: usize, guard: u16) -> Fields
             reference: 0,
         },
         Owned::Parity { lowest } => {
-            let application = PARITY + volume;
-            let reference = lowest as u32;
+            let application = format::scaled(method, PARITY + volume);
+            let reference = layout::reference(lowest);
             Fields {
-                guard,
+                guard: guard as u64,
                 application,
                 reference,
             }
         }
         Owned::Data { block } => {
-            let reference = block as u32;
+            let application = format::scaled(method, volume);
+            let reference = layout::reference(block);
             Fields {
-                guard,
-                application: volume,
+                guard: guard as u64,
+                application,
                 reference,
             }
         }
@@ -147,46 +239,16 @@ fn first_wrong(found: Fields, expected: Fields) -> Checked
     Checked::Good
 }
 
-// The eight bytes of a tag that begins at a place of a slice.
-fn tag_at(bytes: &[u8], at: usize) -> [u8; 8]
-    requires { ⌜ at + 8 ≤ length (now bytes) ⌝ }
-    ensures { λ r. ⌜ r ≡ take 8 (drop at (now (bytes .entry))) ⌝ }
-{
-    [
-        bytes[at],
-        bytes[at + 1],
-        bytes[at + 2],
-        bytes[at + 3],
-        bytes[at + 4],
-        bytes[at + 5],
-        bytes[at + 6],
-        bytes[at + 7],
-    ]
-}
-
-// The same on any numbers: zeros where eight bytes do not lie there.
-pub fn tag_within(bytes: &[u8], at: usize) -> [u8; 8]
-    ensures { λ r. ⌜ r ≡ tagWithin (now (bytes .entry)) at ⌝ }
-{
-    let length = bytes.len();
-    if length < TAG {
-        return [0; 8];
-    }
-    if length - TAG < at {
-        return [0; 8];
-    }
-    tag_at(bytes, at)
-}
-
 // The refusal number of a check: the place's own, then 6 where the block has another length.
 fn check_refusal(array: Array, stripe: u64, member: usize, length: usize) -> u8
     ensures { λ r. ⌜ r ≡ checkRefusal array stripe member length ⌝ }
 {
+    let method = METHOD;
     let refusal = layout::owner_refusal(array, stripe, member);
     if refusal != 0 {
         return refusal;
     }
-    if length != BLOCK {
+    if length != format::block_length(method) {
         return 6;
     }
     0
@@ -196,11 +258,13 @@ fn check_refusal(array: Array, stripe: u64, member: usize, length: usize) -> u8
 pub fn check(array: Array, stripe: u64, member: usize, block: &[u8]) -> Checked
     ensures { λ r. ⌜ checkedNumbers r ≡ checkNumbers array stripe member (now (block .entry)) ⌝ }
 {
+    let method = METHOD;
     let refusal = check_refusal(array, stripe, member, block.len());
     if refusal != 0 {
         return Checked::Refused(refusal);
     }
-    let guard = fold::guard(&block[0..DATA]);
+    let data = format::data_length(method);
+    let guard = format::guard(method, &block[0..data]);
     let expected = due(array, stripe, member, guard);
-    first_wrong(found(tag_at(block, DATA)), expected)
+    first_wrong(found(method, block, data), expected)
 }

@@ -102,6 +102,19 @@ pub fn combined_guards(guards: &[u16]) -> u16
     combined
 }
 
+// The same of guards of thirty-two bits.
+pub fn combined_wide(guards: &[u32]) -> u32
+    ensures { λ r. ⌜ r ≡ combinedGuards (now (guards .entry)) ⌝ }
+{
+    let mut wide: u32 = 0;
+    let mut next: usize = 0;
+    while next < guards.len() {
+        wide = wide ^ guards[next];
+        next += 1;
+    }
+    wide
+}
+
 // The refusal number of so many guards.
 fn quick_refusal(guards: usize) -> u8
     ensures { λ r. ⌜ r ≡ quickRefusal guards ⌝ }

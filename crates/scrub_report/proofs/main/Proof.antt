@@ -1,13 +1,14 @@
 -- `scrub_report::main` is safe and ends. The invariant: the buffers keep their lengths. Assumes nothing.
 use mathlib.Core.Path.{_≡_}
 use lib.ListN.{length}
+use Rattle.format.specs.Formats.{mostData}
 use borrow.Author.Needs.{needs}
 use Rattle.scrub_report.proofs.main.Statement.{statement}
 use Rattle.scrub_report.proofs.main.Tie as tie
 
 abbrev Inv-loop : tie.InvT-loop
 Inv-loop input₀ out₀ work₀ state₀ turns₀ input out work state turns =
-    (length input ≡ 65536) × (length out ≡ 512) × (length work ≡ 512)
+    (length input ≡ 65536) × (length out ≡ 512) × (length work ≡ mostData)
 
 abbrev μ-loop : tie.MeasureT-loop
 μ-loop input₀ out₀ work₀ state₀ turns₀ input out work state turns = turns

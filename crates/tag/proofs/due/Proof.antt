@@ -1,9 +1,10 @@
--- `due` is `dueAt`. The reference is a block number of the array, so it fits. Assumes nothing.
-use mathlib.Core.Path.{sym, ap, _∙_}
-use native.Mathlib.Omega.{arith}
+-- `tag::due` meets its contract.
+-- Assumes nothing.
+use mathlib.Core.Path.{sym, ap, ap₂, _∙_}
+use Prim.Native.Nat.{ℕ}
 use Rattle.layout.specs.Places.{ownedNumbers}
 use Rattle.layout.specs.declared.Owned.the-variants.{Refused, Parity, Data}
-use Rattle.tag.proofs.Expected.{due-by-owner, owner-reference-small}
+use Rattle.tag.proofs.Expected.{due-by-owner}
 use borrow.Author.Needs.{needs}
 use Rattle.tag.proofs.due.Statement.{statement}
 use Rattle.tag.proofs.due.Tie as tie
@@ -20,21 +21,23 @@ enum-told c = search needs
 enum-known-owned : tie.Need-enum-known-owned
 enum-known-owned c = search needs
 
-add-application : tie.Need-add-application
-add-application c = search needs
+add-scaled : tie.Need-add-scaled
+add-scaled c = search needs
 
-cast-reference : tie.Need-cast-reference
-cast-reference c =
-    let told = ap ownedNumbers (sym (c .before .owned .given .1)) ∙ c .before .before .before .owner .ensures in
-    omega (arith, owner-reference-small _ _ _ 0 (Parity (c .before .owned .given .0 .0)) told)
+scaled-requires : tie.Need-scaled-requires
+scaled-requires c κs = search needs
+
+reference-requires : tie.Need-reference-requires
+reference-requires c κs = search needs
 
 enum-known-owned-2 : tie.Need-enum-known-owned-2
 enum-known-owned-2 c = search needs
 
-cast-reference-2 : tie.Need-cast-reference-2
-cast-reference-2 c =
-    let told = ap ownedNumbers (sym (c .before .owned2 .given .1)) ∙ c .before .before .before .owner .ensures in
-    omega (arith, owner-reference-small _ _ _ 0 (Data (c .before .owned2 .given .0 .0)) told)
+scaled-requires-2 : tie.Need-scaled-requires-2
+scaled-requires-2 c κs = search needs
+
+reference-requires-2 : tie.Need-reference-requires-2
+reference-requires-2 c κs = search needs
 
 returns : tie.Need-returns
 returns c =
@@ -43,13 +46,19 @@ returns c =
 
 returns-2 : tie.Need-returns-2
 returns-2 c =
-    let told = ap ownedNumbers (sym (c .before .owned .given .1)) ∙ c .before .before .before .owner .ensures in
-    due-by-owner _ _ _ (c .before .before .before .before .before .args .guard) (Parity _) told
+    let o = c .before .before .before in
+    let a = o .before .before .before .before .args in
+    let told = ap ownedNumbers (sym (o .owned .given .1)) ∙ o .before .before .owner .ensures in
+    ap₂ (λ (x y : ℕ). record { guard = a .guard; application = x; reference = y }) (c .before .scaled .ensures) (c .reference .ensures)
+    ∙ due-by-owner _ _ _ (a .guard) (Parity _) told
 
 returns-3 : tie.Need-returns-3
 returns-3 c =
-    let told = ap ownedNumbers (sym (c .before .owned2 .given .1)) ∙ c .before .before .before .owner .ensures in
-    due-by-owner _ _ _ (c .before .before .before .before .before .args .guard) (Data _) told
+    let o = c .before .before .before in
+    let a = o .before .before .before .before .args in
+    let told = ap ownedNumbers (sym (o .owned2 .given .1)) ∙ o .before .before .owner .ensures in
+    ap₂ (λ (x y : ℕ). record { guard = a .guard; application = x; reference = y }) (c .before .scaled2 .ensures) (c .reference2 .ensures)
+    ∙ due-by-owner _ _ _ (a .guard) (Data _) told
 
 pub due-spec : {M : Type 1} → statement M
 due-spec =
@@ -59,10 +68,12 @@ due-spec =
     owner-requires
     enum-told
     enum-known-owned
-    add-application
-    cast-reference
+    add-scaled
+    scaled-requires
+    reference-requires
     enum-known-owned-2
-    cast-reference-2
+    scaled-requires-2
+    reference-requires-2
     returns
     returns-2
     returns-3)

@@ -7,6 +7,9 @@ use Rattle.irumbolai.proofs.Verdicts.{Small, scrub-small}
 use Rattle.irumbolai.proofs.scrubs.irumbolai_scrub.Statement.{statement}
 use Rattle.irumbolai.proofs.scrubs.irumbolai_scrub.Tie as tie
 
+array-of-requires : tie.Need-array-of-requires
+array-of-requires c κs = search needs
+
 scrub-requires : tie.Need-scrub-requires
 scrub-requires c κs = search needs
 
@@ -16,7 +19,7 @@ verdict-answer-requires c κs =
     (omega (arith, small .first), omega (arith, small .count))
 
 returns : tie.Need-returns
-returns c = c .verdict-answer .ensures ∙ ap unflagged (c .before .scrub .ensures)
+returns c = rw (← c .before .before .array-of .ensures) (c .verdict-answer .ensures ∙ ap unflagged (c .before .scrub .ensures))
 
 pub irumbolai-scrub-spec : {M : Type 1} → statement M
-irumbolai-scrub-spec = tie.close (tie.spec scrub-requires verdict-answer-requires returns)
+irumbolai-scrub-spec = tie.close (tie.spec array-of-requires scrub-requires verdict-answer-requires returns)

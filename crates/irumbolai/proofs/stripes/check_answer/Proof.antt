@@ -1,4 +1,5 @@
 -- `check_answer` sets out what it is handed, case by case. Assumes nothing.
+use native.Mathlib.Omega.{arith}
 use borrow.Author.Needs.{needs}
 use Rattle.irumbolai.proofs.stripes.check_answer.Statement.{statement}
 use Rattle.irumbolai.proofs.stripes.check_answer.Tie as tie
@@ -16,22 +17,28 @@ enum-known-checked-2 : tie.Need-enum-known-checked-2
 enum-known-checked-2 c = search needs
 
 cast-found : tie.Need-cast-found
-cast-found c = search needs
+cast-found c = let h = rw (c .before .checked2 .given .1) at (c .before .before .before .pre .0) in omega arith
 
 cast-expected : tie.Need-cast-expected
-cast-expected c = search needs
+cast-expected c = let h = rw (c .before .checked2 .given .1) at (c .before .before .before .pre .1) in omega arith
 
 enum-known-checked-3 : tie.Need-enum-known-checked-3
 enum-known-checked-3 c = search needs
 
 cast-found-2 : tie.Need-cast-found-2
-cast-found-2 c = search needs
+cast-found-2 c = let h = rw (c .before .checked3 .given .1) at (c .before .before .before .pre .0) in omega arith
 
 cast-expected-2 : tie.Need-cast-expected-2
-cast-expected-2 c = search needs
+cast-expected-2 c = let h = rw (c .before .checked3 .given .1) at (c .before .before .before .pre .1) in omega arith
 
 enum-known-checked-4 : tie.Need-enum-known-checked-4
 enum-known-checked-4 c = search needs
+
+cast-found-3 : tie.Need-cast-found-3
+cast-found-3 c = let h = rw (c .before .checked4 .given .1) at (c .before .before .before .pre .0) in omega arith
+
+cast-expected-3 : tie.Need-cast-expected-3
+cast-expected-3 c = let h = rw (c .before .checked4 .given .1) at (c .before .before .before .pre .1) in omega arith
 
 returns : tie.Need-returns
 returns c = rw (c .before .checked .given .1)
@@ -62,6 +69,8 @@ check-answer-spec =
     cast-found-2
     cast-expected-2
     enum-known-checked-4
+    cast-found-3
+    cast-expected-3
     returns
     returns-2
     returns-3

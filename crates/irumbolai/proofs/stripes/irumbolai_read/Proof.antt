@@ -5,6 +5,9 @@ use Rattle.irumbolai.specs.Answers.{unflagged}
 use Rattle.irumbolai.proofs.stripes.irumbolai_read.Statement.{statement}
 use Rattle.irumbolai.proofs.stripes.irumbolai_read.Tie as tie
 
+array-of-requires : tie.Need-array-of-requires
+array-of-requires c κs = search needs
+
 read-requires : tie.Need-read-requires
 read-requires c κs = search needs
 
@@ -16,8 +19,9 @@ same-length c = search needs
 
 returns : tie.Need-returns
 returns c =
-    let told = c .before .before .before .read .ensures in
-    (c .read-answer .ensures ∙ ap unflagged (told .0), told .1)
+    let p = c .before .before .before in
+    let told = p .read .ensures in
+    rw (← p .before .before .array-of .ensures) (c .read-answer .ensures ∙ ap unflagged (told .0), told .1)
 
 pub irumbolai-read-spec : {M : Type 1} → statement M
-irumbolai-read-spec = tie.close (tie.spec read-requires read-answer-requires same-length returns)
+irumbolai-read-spec = tie.close (tie.spec array-of-requires read-requires read-answer-requires same-length returns)

@@ -1,69 +1,57 @@
--- `lines::header::array_in` meets its contract. Assumes nothing.
-use mathlib.Core.Path.{sym}
+-- `lines::header::array_in` is `arrayIn`. Assumes nothing.
+use mathlib.Core.Path.{_≡_, ap, _∙_}
+use Prim.Native.Nat.{ℕ}
+use native.Mathlib.Omega.{arith}
 use borrow.Author.Needs.{needs}
-use Rattle.lines.proofs.Headers.{array-at}
+use lib.ListN.{getD}
+use Rattle.layout.specs.Arrays.{arrayOf}
+use Rattle.lines.specs.Headers.{formOf, arrayIn}
+use Rattle.lines.specs.declared.header.Form.{Form}
+use Rattle.lines.proofs.Headers.{wide-most}
 use Rattle.lines.proofs.header.array_in.Statement.{statement}
 use Rattle.lines.proofs.header.array_in.Tie as tie
 
-array-read-pair : tie.Need-array-read-pair
-array-read-pair c = search needs
+array-read-form-of : tie.Need-array-read-form-of
+array-read-form-of c = search needs
 
-array-read-pair-2 : tie.Need-array-read-pair-2
-array-read-pair-2 c = search needs
+form-of-requires : tie.Need-form-of-requires
+form-of-requires c κs = search needs
 
-pair-requires : tie.Need-pair-requires
-pair-requires c κs = search needs
+number-in-requires : tie.Need-number-in-requires
+number-in-requires c κs =
+    let version = getD (c .before .args .t1) 2 0 in
+    let wide : c .form-of .result .wide ≡ formOf version .wide = ap (λ (f : Form). f .wide) (c .form-of .ensures) in
+    (omega (arith, wide-most version), omega (arith, wide-most version))
 
-array-read-pair-3 : tie.Need-array-read-pair-3
-array-read-pair-3 c = search needs
+array-read-array-of : tie.Need-array-read-array-of
+array-read-array-of c = search needs
 
-array-read-pair-4 : tie.Need-array-read-pair-4
-array-read-pair-4 c = search needs
+cast-array-of : tie.Need-cast-array-of
+cast-array-of c = search needs
 
-pair-requires-2 : tie.Need-pair-requires-2
-pair-requires-2 c κs = search needs
+array-read-array-of-2 : tie.Need-array-read-array-of-2
+array-read-array-of-2 c = search needs
 
-array-read-t7 : tie.Need-array-read-t7
-array-read-t7 c = search needs
-
-cast-t17 : tie.Need-cast-t17
-cast-t17 c = search needs
-
-cast-t18 : tie.Need-cast-t18
-cast-t18 c = search needs
-
-mul-t19 : tie.Need-mul-t19
-mul-t19 c = search needs
-
-cast-t20 : tie.Need-cast-t20
-cast-t20 c = search needs
-
-add-t21 : tie.Need-add-t21
-add-t21 c = search needs
-
-array-read-t10 : tie.Need-array-read-t10
-array-read-t10 c = search needs
+array-of-requires : tie.Need-array-of-requires
+array-of-requires c κs = search needs
 
 returns : tie.Need-returns
+unfolding arrayIn
 returns c =
-    let high = c .before in
-    sym (array-at (high .before .args .t1) (high .pair .result) (c .pair2 .result) (search needs) (high .pair .ensures) (c .pair2 .ensures))
+    let n = c .before in
+    let header = n .before .before .args .t1 in
+    c .array-of .ensures
+    ∙ ap (λ (stripes : ℕ). arrayOf (getD header 3 0) stripes (getD header 4 0)) (n .number-in .ensures ∙ rw (n .before .form-of .ensures))
 
 pub array-in-spec : {M : Type 1} → statement M
 array-in-spec =
     tie.close
     (tie.spec
-    array-read-pair
-    array-read-pair-2
-    pair-requires
-    array-read-pair-3
-    array-read-pair-4
-    pair-requires-2
-    array-read-t7
-    cast-t17
-    cast-t18
-    mul-t19
-    cast-t20
-    add-t21
-    array-read-t10
+    array-read-form-of
+    form-of-requires
+    number-in-requires
+    array-read-array-of
+    cast-array-of
+    array-read-array-of-2
+    array-of-requires
     returns)

@@ -7,7 +7,7 @@ use native.Mathlib.Nat.{add-zero}
 use native.Mathlib.Omega.{arith}
 use lib.ListN.{length, drop}
 use lib.Seq.{sets}
-use Rattle.stripe.proofs.Puts.{sets-turn, sets-end}
+use Rattle.copy.proofs.Puts.{sets-turn, sets-end}
 use Rattle.report.specs.Feeding.{holding}
 use borrow.Author.Needs.{needs}
 use Rattle.report.proofs.feeding.header_held.Statement.{statement}

@@ -1,14 +1,15 @@
 -- `report::feeding::header_whole` meets its contract. Assumes nothing.
 use mathlib.Core.Path.{_≡_}
 use lib.ListN.{length}
+use Rattle.lines.specs.Headers.{headerRoom}
 use Rattle.lines.proofs.Lines.{written-whole}
 use Rattle.report.proofs.Doing.{header-refused, header-accepted}
 use borrow.Author.Needs.{needs}
 use Rattle.report.proofs.feeding.header_whole.Statement.{statement}
 use Rattle.report.proofs.feeding.header_whole.Tie as tie
 
--- a header has nine bytes
-long : (s : tie.Start) → length (s .args .report .header) ≡ 9
+-- a header is held in fifteen bytes
+long : (s : tie.Start) → length (s .args .report .header) ≡ headerRoom
 long s = search needs
 
 header-refusal-requires : tie.Need-header-refusal-requires
@@ -31,7 +32,7 @@ returns c =
     let start = h .before .before .before .before in
     let a = start .args in
     header-refused (a .used) (a .report) (a .work .now) (a .out .now) _ (h .header-refusal .result) (l .refused-line .result) (c .ended .result)
-    (long start) (h .header-refusal .ensures) (i .if1 .taken) (written-whole (start .pre) (l .refused-line .ensures)) (c .ended .ensures)
+    (h .header-refusal .ensures) (i .if1 .taken) (written-whole (start .pre) (l .refused-line .ensures)) (c .ended .ensures)
 
 array-in-requires : tie.Need-array-in-requires
 array-in-requires c κs = search needs
@@ -60,7 +61,7 @@ returns-2 c =
     let start = h .before .before .before .before in
     let a = start .args in
     header-accepted (a .used) (a .report) (a .work .now) (a .out .now) _ (h .header-refusal .result) (l .first-line .result) (c .entering .result)
-    (long start) (h .header-refusal .ensures) (l .before .before .array-in .result) (b .start .result .state) _
+    (h .header-refusal .ensures) (l .before .before .array-in .result) (b .start .result .state) _ (long start)
     (i .if1 .left) (l .before .before .array-in .ensures) (written-whole (start .pre) (l .first-line .ensures))
     (b .start .ensures .1 .0) (b .start .ensures .1 .1) (c .entering .ensures)
 

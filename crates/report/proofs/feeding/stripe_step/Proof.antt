@@ -1,5 +1,5 @@
 -- `report::feeding::stripe_step` meets its contract. Assumes nothing.
-use mathlib.Core.Path.{refl, sym, _∙_}
+use mathlib.Core.Path.{sym, _∙_}
 use borrow.Author.Tests.{not-true, not-false}
 use Rattle.report.specs.Feeding.{blockLacks}
 use Rattle.report.proofs.Doing.{part-lacking, part-short, unfit-passes, fit-takes}
@@ -16,8 +16,8 @@ returns c =
     let a = f .before .before .before .before .args in
     unfit-passes (a .report) (a .input .now) (a .work .now) _ (sym (f .stripe-fit .ensures) ∙ not-true _ (c .if1 .taken))
 
-sub-lacks : tie.Need-sub-lacks
-sub-lacks c = search needs
+block-lacks-requires : tie.Need-block-lacks-requires
+block-lacks-requires c κs = search needs
 
 least-requires : tie.Need-least-requires
 least-requires c κs = search needs
@@ -34,11 +34,12 @@ part-stripe-took-end c = search needs
 stripe-took-requires : tie.Need-stripe-took-requires
 stripe-took-requires c κs =
     let l = c .before .before .before in
-    let i = l .before in
+    let k = l .before in
+    let i = k .before in
     let f = i .before in
     let a = f .before .before .before .before .args in (
       sym (f .stripe-fit .ensures) ∙ not-false _ (i .if1 .left),
-      (part-short _ (blockLacks (a .report)) (l .least .result) (a .input .now) refl (l .least .ensures), search needs),
+      (part-short _ (blockLacks (a .report)) (l .least .result) (a .input .now) (k .block-lacks .ensures) (l .least .ensures), search needs),
     )
 
 same-length : tie.Need-same-length
@@ -51,11 +52,12 @@ returns-2 : tie.Need-returns-2
 returns-2 c =
     let t = c .before .before .before .before in
     let l = t .before .before .before .before in
-    let i = l .before in
+    let k = l .before in
+    let i = k .before in
     let f = i .before in
     let a = f .before .before .before .before .args in
     fit-takes (a .report) (a .input .now) (a .work .now) _ (t .stripe-took .result) _ _ _ (sym (f .stripe-fit .ensures) ∙ not-false _ (i .if1 .left))
-    (part-lacking _ (blockLacks (a .report)) (l .least .result) (a .input .now) refl (l .least .ensures)) (t .stripe-took .ensures)
+    (part-lacking _ (blockLacks (a .report)) (l .least .result) (a .input .now) (k .block-lacks .ensures) (l .least .ensures)) (t .stripe-took .ensures)
 
 pub stripe-step-spec : {M : Type 1} → statement M
 stripe-step-spec =
@@ -63,7 +65,7 @@ stripe-step-spec =
     (tie.spec
     stripe-fit-requires
     returns
-    sub-lacks
+    block-lacks-requires
     least-requires
     sub-stripe-took
     part-stripe-took-start

@@ -1,25 +1,29 @@
--- `scan::finishing::all_whole` meets its contract. The invariant: whether all positions still to come stand at the end is whether all do.
+-- `scan::finishing::all_whole` meets its contract.
 -- Assumes nothing.
-use mathlib.Core.Path.{_≡_, refl, sym, _∙_}
+use mathlib.Core.Path.{_≡_, refl, sym, ap, _∙_}
 use mathlib.Core.Bool.{true, false}
 use mathlib.Core.List.{map}
-use Prim.Native.Nat.{_-_}
+use Prim.Native.Nat.{ℕ, _-_, _≤_}
 use native.Mathlib.Omega.{arith}
-use borrow.Author.Needs.{needs}
-use borrow.Author.Tests.{eq-eqb, ne-eqb}
-use lib.Dec.{eqb}
+use lib.Dec.{leb, ltb, eqb}
 use lib.ListN.{length, take, drop}
+use borrow.Author.Tests.{le-leb, lt-leb, eq-eqb, ne-eqb, not-true, not-false}
+use Rattle.format.specs.Methods.{formatOf}
 use Rattle.stripe.specs.Tables.{all}
 use Rattle.scan.specs.Steps.{allWhole}
 use Rattle.scan.proofs.Fitness.{all-turn, all-end}
+use borrow.Author.Needs.{needs}
 use Rattle.scan.proofs.finishing.all_whole.Statement.{statement}
 use Rattle.scan.proofs.finishing.all_whole.Tie as tie
 
 abbrev Inv-loop : tie.InvT-loop
-Inv-loop members at member₀ member = all (map (λ p. eqb p 520) (drop member (take members at))) ≡ allWhole members at
+Inv-loop method members at block member₀ member = all (map (λ p. eqb p (formatOf method .blockLength)) (drop member (take members at))) ≡ allWhole (formatOf method) members at
 
 abbrev μ-loop : tie.MeasureT-loop
-μ-loop members at member₀ member = members - member
+μ-loop method members at block member₀ member = members - member
+
+block-length-requires : tie.Need-block-length-requires Inv-loop μ-loop
+block-length-requires c κs = search needs
 
 loop-holds : tie.Need-loop-holds Inv-loop μ-loop
 loop-holds c = refl
@@ -36,9 +40,10 @@ cast-if1 c = search needs
 returns : tie.Need-returns Inv-loop μ-loop
 returns c =
     let l = c .before .before in
-    let a = l .before .args in
-    let long : length (a .t1) ≡ 16 = search needs in
-    sym (all-turn (λ p. eqb p 520) (a .t1) (a .members) (l .loop .member) false (omega arith) (omega arith) (ne-eqb _ _ (c .if1 .taken))) ∙ l .loop .inv
+    let b = l .before in
+    let a = b .before .args in
+    let long : length (a .t2) ≡ 16 = search needs in
+    sym (all-turn (λ p. eqb p (formatOf (a .method) .blockLength)) (a .t2) (a .members) (l .loop .member) false (omega arith) (omega arith) (ne-eqb _ _ (rw (b .block-length .ensures) at (c .if1 .taken)))) ∙ l .loop .inv
 
 add-member : tie.Need-add-member Inv-loop μ-loop
 add-member c = search needs
@@ -49,15 +54,16 @@ loop-less c = search needs
 loop-again : tie.Need-loop-again Inv-loop μ-loop
 loop-again c =
     let l = c .before .before in
-    let a = l .before .args in
-    let long : length (a .t1) ≡ 16 = search needs in
-    sym (all-turn (λ p. eqb p 520) (a .t1) (a .members) (l .loop .member) true (omega arith) (omega arith) (eq-eqb _ _ (c .if1 .left))) ∙ l .loop .inv
+    let b = l .before in
+    let a = b .before .args in
+    let long : length (a .t2) ≡ 16 = search needs in
+    sym (all-turn (λ p. eqb p (formatOf (a .method) .blockLength)) (a .t2) (a .members) (l .loop .member) true (omega arith) (omega arith) (eq-eqb _ _ (rw (b .block-length .ensures) at (c .if1 .left)))) ∙ l .loop .inv
 
 returns-2 : tie.Need-returns-2 Inv-loop μ-loop
 returns-2 c =
     let l = c .before in
-    let a = l .before .args in
-    sym (all-end (λ p. eqb p 520) (a .t1) (a .members) (l .loop .member) (omega arith)) ∙ l .loop .inv
+    let a = l .before .before .args in
+    sym (all-end (λ p. eqb p (formatOf (a .method) .blockLength)) (a .t2) (a .members) (l .loop .member) (omega arith)) ∙ l .loop .inv
 
 pub all-whole-spec : {M : Type 1} → statement M
 all-whole-spec =
@@ -65,6 +71,7 @@ all-whole-spec =
     (tie.spec
     Inv-loop
     μ-loop
+    block-length-requires
     loop-holds
     mul-if1
     array-read-if1

@@ -1,12 +1,15 @@
--- `stripe::scrub` meets its contract: refused by its own tests, else the judgement of the bad members and the combined data.
+-- `stripe::scrubbing::scrub` meets its contract.
 -- Assumes nothing.
 use mathlib.Core.Path.{sym, ap, _∙_}
 use mathlib.Core.List.{List, [], _∷_}
-use Prim.Native.Nat.{ℕ}
+use Prim.Native.Nat.{ℕ, _-_}
 use native.Mathlib.Omega.{arith}
-use borrow.Author.Needs.{needs}
-use lib.ListN.{length}
+use lib.ListN.{length, take}
+use Rattle.tag.specs.Blocks.{formatAt}
+use Rattle.stripe.specs.Stripes.{othersData}
+use Rattle.stripe.proofs.Fronts.{lent-front}
 use Rattle.stripe.proofs.Scrubs.{scrub-sound, scrub-refused, scrub-found}
+use borrow.Author.Needs.{needs}
 use Rattle.stripe.proofs.scrubbing.scrub.Statement.{statement}
 use Rattle.stripe.proofs.scrubbing.scrub.Tie as tie
 
@@ -22,31 +25,49 @@ returns c =
 bad-members-requires : tie.Need-bad-members-requires
 bad-members-requires c κs = search needs
 
+data-length-requires : tie.Need-data-length-requires
+data-length-requires c κs = search needs
+
 slice-aggregate-combined : tie.Need-slice-aggregate-combined
 slice-aggregate-combined c = search needs
 
 combined-requires : tie.Need-combined-requires
 combined-requires c κs =
-    let a = c .before .before .before .before .before .args in
-    let sound = sym (c .before .before .before .scrub-refusal .ensures) ∙ c .before .before .if1 .left in
-    (omega (arith, scrub-sound (a .array) (a .stripe) (length (a .bytes .now)) sound .1), search needs)
+    let i = c .before .before .before in
+    let a = i .before .before .before .args in
+    let sound = sym (i .before .scrub-refusal .ensures) ∙ i .if1 .left in
+    (omega (arith, scrub-sound (a .array) (a .stripe) (length (a .bytes .now)) sound .1), formatAt (a .array) .data-most)
 
-slice-aggregate-judge : tie.Need-slice-aggregate-judge
-slice-aggregate-judge c = search needs
+sub-judge : tie.Need-sub-judge
+sub-judge c = search needs
+
+part-judge-start : tie.Need-part-judge-start
+part-judge-start c = search needs
+
+part-judge-end : tie.Need-part-judge-end
+part-judge-end c =
+    let l = c .before .before .before .before in
+    let a = l .before .before .before .before .before .args in
+    omega (arith, formatAt (a .array) .data-most, l .data-length .ensures)
 
 judge-requires : tie.Need-judge-requires
 judge-requires c κs = search needs
 
 returns-2 : tie.Need-returns-2
 returns-2 c =
-    let d = c .before .before .before in
-    let b = d .before .before in
+    let d = c .before .before .before .before in
+    let l = d .before .before in
+    let b = l .before in
     let r = b .before .before in
     let a = r .before .before .args in
+    let F = formatAt (a .array) in
     let found = b .bad-members in
+    let whole = othersData F (a .array .members) (a .array .members) (a .bytes .now) in
+    let last = d .combined .last .1 .1 .1 .1 .0 in
     ap (λ (l : List ℕ). 1 ∷ 0 ∷ l) (c .judge .ensures)
     ∙ sym (scrub-found (a .array) (a .stripe) (a .bytes .now) (sym (r .scrub-refusal .ensures) ∙ b .before .if1 .left)
-    (found .result .lowest) (found .result .count) (d .combined .last .1 .1 .1 .0) (found .ensures .0) (found .ensures .1) (d .combined .ensures))
+    (found .result .lowest) (found .result .count) (take (l .data-length .result - 0) last) (found .ensures .0) (found .ensures .1)
+    (lent-front whole last (l .data-length .result) (F .dataLength) (l .data-length .ensures) (d .combined .ensures)))
 
 pub scrub-spec : {M : Type 1} → statement M
 scrub-spec =
@@ -55,8 +76,11 @@ scrub-spec =
     scrub-refusal-requires
     returns
     bad-members-requires
+    data-length-requires
     slice-aggregate-combined
     combined-requires
-    slice-aggregate-judge
+    sub-judge
+    part-judge-start
+    part-judge-end
     judge-requires
     returns-2)

@@ -1,22 +1,24 @@
 -- `stripe::sealing::write_member` meets its contract.
 -- Assumes nothing.
-use mathlib.Core.Path.{_≡_, sym, ap, _∙_}
+use mathlib.Core.Path.{_≡_, sym, ap, ap₂, _∙_}
 use mathlib.Core.Logic.{_≢_}
 use mathlib.Core.List.{List}
 use Prim.Native.Nat.{ℕ, _+_, _*_, _≤_, _<_}
 use native.Mathlib.Omega.{arith}
 use borrow.Author.Tests.{eq-eqb, ne-eqb}
-use lib.ListN.{length, getD, length-set}
-use lib.Seq.{length-sets}
-use Rattle.crc.specs.Guard.{guard}
+use lib.ListN.{length, getD}
+use Rattle.format.specs.Formats.{guard, guardsOf}
+use Rattle.format.proofs.Sizes.{times-next}
 use Rattle.layout.specs.Arrays.{dataMembers}
 use Rattle.layout.specs.Places.{parityMember, indexAt}
 use Rattle.layout.proofs.Ranges.{place-sound}
 use Rattle.layout.proofs.Members.{index-below}
+use Rattle.tag.specs.Blocks.{formatAt}
 use Rattle.tag.specs.Tags.{tagged}
 use Rattle.stripe.specs.Tables.{part, span}
 use Rattle.stripe.specs.Jobs.{withBlock}
 use Rattle.stripe.proofs.Rows.{lent-span, length-span}
+use Rattle.stripe.proofs.Rooms.{block-room}
 use Rattle.stripe.proofs.Guards.{part-guard}
 use borrow.Author.Needs.{needs}
 use Rattle.stripe.proofs.sealing.write_member.Statement.{statement}
@@ -47,11 +49,21 @@ small i =
 many : (i : tie.After-index-at) → i .before .before .before .before .before .args .array .members ≤ 16
 many i = place-sound _ _ _ (i .before .before .before .before .before .pre .0) .stripe .array .many
 
-mul-from : tie.Need-mul-from
-mul-from c = omega (arith, small c, many c)
+-- and lies within them
+inside : (i : tie.After-index-at) → let a = i .before .before .before .before .before .args in
+    formatAt (a .array) .dataLength * i .index-at .result + formatAt (a .array) .dataLength ≤ length (a .content .now)
+inside i =
+    let s = i .before .before .before .before .before in
+    omega (arith, s .pre .1 .0, times-next (formatAt (s .args .array) .dataLength) (i .index-at .result) (dataMembers (s .args .array)) (small i))
+
+data-at-requires : tie.Need-data-at-requires
+data-at-requires c κs = omega (arith, inside c)
+
+data-length-requires : tie.Need-data-length-requires
+data-length-requires c κs = search needs
 
 add-end : tie.Need-add-end
-add-end c = omega (arith, small c, many c)
+add-end c = omega (arith, inside (c .before .before), c .data-length .ensures, c .before .data-at .ensures)
 
 sub-write-block : tie.Need-sub-write-block
 sub-write-block c = search needs
@@ -60,27 +72,24 @@ part-write-block-start : tie.Need-part-write-block-start
 part-write-block-start c = search needs
 
 part-write-block-end : tie.Need-part-write-block-end
-part-write-block-end c = omega (arith, small c, many c)
-
-mul-write-block : tie.Need-mul-write-block
-mul-write-block c = omega (arith, small (c .before), many (c .before))
-
-array-read-write-block : tie.Need-array-read-write-block
-array-read-write-block c = omega (arith, small (c .before), many (c .before))
+part-write-block-end c = omega (arith, inside (c .before .before), c .data-length .ensures, c .before .data-at .ensures)
 
 write-block-requires : tie.Need-write-block-requires
 write-block-requires c κs =
-    let i = c .before .before in
+    let d = c .before .before in
+    let f = d .before in
+    let i = f .before in
     let s = i .before .before .before .before .before in
     let a = s .args in
-    let place = place-sound (a .array) (a .stripe) (a .member) (s .pre .0) in
-    let inside : 512 * i .index-at .result + 512 ≤ length (a .content .now) = omega (arith, small i) in
-    let right = ap (λ (l : List ℕ). getD l (i .index-at .result) 0) (s .pre .1 .1 .1)
-    ∙ part-guard (a .content .now) (i .index-at .result) (omega (arith, small i, many i)) ∙ ap guard (sym (lent-span (512 * i .index-at .result) 512 (a .content .now))) in (
+    let F = formatAt (a .array) in
+    let here = inside i in
+    let lent = lent-span (f .data-at .result) (d .data-length .result) (a .content .now) ∙ ap₂ (λ (k n : ℕ). span k n (a .content .now)) (f .data-at .ensures) (d .data-length .ensures) in
+    let right = s .pre .1 .1 .1 ∙ ap (λ (k : ℕ). getD (guardsOf F 16 (F .dataLength) (a .content .now)) k 0) (sym (i .index-at .ensures))
+    ∙ part-guard F (a .content .now) (i .index-at .result) (omega (arith, small i, many i)) ∙ ap (guard F) (sym lent) in (
       s .pre .0,
       (
-        ap length (lent-span (512 * i .index-at .result) 512 (a .content .now)) ∙ length-span (512 * i .index-at .result) 512 (a .content .now) inside,
-        (omega (arith, place .here), right),
+        ap length lent ∙ length-span (F .dataLength * i .index-at .result) (F .dataLength) (a .content .now) here,
+        (block-room (a .array) (a .stripe) (a .member) (s .pre .0) (a .bytes .now) (s .pre .1 .1 .0), right),
       ),
     )
 
@@ -89,13 +98,17 @@ same-length c = search needs
 
 returns-2 : tie.Need-returns-2
 returns-2 c =
-    let i = c .before .before .before .before .before in
+    let d = c .before .before .before .before .before in
+    let f = d .before in
+    let i = f .before in
     let s = i .before .before .before .before .before in
     let a = s .args in
+    let F = formatAt (a .array) in
+    let lent = lent-span (f .data-at .result) (d .data-length .result) (a .content .now) ∙ ap₂ (λ (k n : ℕ). span k n (a .content .now)) (f .data-at .ensures) (d .data-length .ensures) in
     rw (ne-eqb (a .member) (parityMember (a .array) (a .stripe)) (not-parity i))
     (c .before .before .write-block .ensures
-    ∙ ap (λ (l : List ℕ). withBlock (a .bytes .now) (a .member) (tagged (a .array) (a .stripe) (a .member) l))
-    (lent-span (512 * i .index-at .result) 512 (a .content .now) ∙ ap (part 512 (a .content .now)) (i .index-at .ensures)))
+    ∙ ap (λ (l : List ℕ). withBlock F (a .bytes .now) (a .member) (tagged (a .array) (a .stripe) (a .member) l))
+    (lent ∙ ap (part (F .dataLength) (a .content .now)) (i .index-at .ensures)))
 
 pub write-member-spec : {M : Type 1} → statement M
 write-member-spec =
@@ -104,13 +117,12 @@ write-member-spec =
     parity-member-requires
     returns
     index-at-requires
-    mul-from
+    data-at-requires
+    data-length-requires
     add-end
     sub-write-block
     part-write-block-start
     part-write-block-end
-    mul-write-block
-    array-read-write-block
     write-block-requires
     same-length
     returns-2)

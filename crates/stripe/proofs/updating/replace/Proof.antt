@@ -1,9 +1,15 @@
--- `stripe::updating::replace` meets its contract: where nothing is refused both blocks lie in the stripe, which keeps its length.
+-- `stripe::updating::replace` meets its contract.
 -- Assumes nothing.
-use mathlib.Core.Path.{sym, ap, _∙_}
+use mathlib.Core.Path.{sym, ap, ap₂, _∙_}
+use mathlib.Core.List.{List}
+use Prim.Native.Nat.{ℕ, _-_}
 use native.Mathlib.Omega.{arith}
-use lib.ListN.{length}
+use lib.ListN.{length, take}
 use Rattle.layout.specs.Places.{ownerRefusal}
+use Rattle.xor.specs.Xors.{xors}
+use Rattle.tag.specs.Blocks.{formatAt, dataOf}
+use Rattle.stripe.specs.Stripes.{blockOf}
+use Rattle.stripe.proofs.Fronts.{lent-front}
 use Rattle.stripe.proofs.Updates.{parity-sound, inside, second-inside, replace-refused, replace-done}
 use borrow.Author.Needs.{needs}
 use Rattle.stripe.proofs.updating.replace.Statement.{statement}
@@ -24,54 +30,72 @@ returns c =
 parity-member-requires : tie.Need-parity-member-requires
 parity-member-requires c κs = search needs
 
+data-length-requires : tie.Need-data-length-requires
+data-length-requires c κs = search needs
+
 moved-parity-requires : tie.Need-moved-parity-requires
 moved-parity-requires c κs =
-    let p = c .before in
+    let p = c .before .before in
     let z = p .before in
     let r = z .before in
     let s = r .before .before .before .before in
     let a = s .args in
     let h = inside (a .array) (a .stripe) (a .member) (length (a .content .now)) (a .bytes .now) (s .pre) (sym (r .replace-refusal .ensures) ∙ z .if1 .left) in
-    (omega (arith, p .parity-member .ensures), h .own)
+    (rw (p .parity-member .ensures) (h .parity), (h .own, h .size))
+
+sub-guard : tie.Need-sub-guard
+sub-guard c = search needs
+
+part-guard-start : tie.Need-part-guard-start
+part-guard-start c = search needs
+
+part-guard-end : tie.Need-part-guard-end
+part-guard-end c = let F = formatAt (c .before .before .before .before .before .before .before .before .before .before .args .array) in omega (arith, F .data-most, c .before .before .before .data-length .ensures)
 
 guard-requires : tie.Need-guard-requires
 guard-requires c κs = search needs
 
-write-block-requires : tie.Need-write-block-requires
-write-block-requires c κs =
-    let g = c .before in
-    let p = g .before .before .before in
-    let z = p .before in
-    let r = z .before in
-    let s = r .before .before .before .before in
-    let a = s .args in
-    let h = inside (a .array) (a .stripe) (a .member) (length (a .content .now)) (a .bytes .now) (s .pre) (sym (r .replace-refusal .ensures) ∙ z .if1 .left) in
-    (s .pre, (h .size, (h .own, g .guard .ensures)))
-
-slice-aggregate-write-block : tie.Need-slice-aggregate-write-block
-slice-aggregate-write-block c = search needs
-
-slice-aggregate-guard : tie.Need-slice-aggregate-guard
-slice-aggregate-guard c = search needs
-
 guard-requires-2 : tie.Need-guard-requires-2
 guard-requires-2 c κs = search needs
 
-write-block-requires-2 : tie.Need-write-block-requires-2
-write-block-requires-2 c κs =
+write-block-requires : tie.Need-write-block-requires
+write-block-requires c κs =
     let g = c .before in
-    let w = g .before .before .before .before .before in
-    let v = w .before .before .before in
-    let p = v .before .before in
-    let z = p .before in
+    let z = c .before .before .before .before .before .before .before .before .before in
     let r = z .before in
     let s = r .before .before .before .before in
     let a = s .args in
     let h = inside (a .array) (a .stripe) (a .member) (length (a .content .now)) (a .bytes .now) (s .pre) (sym (r .replace-refusal .ensures) ∙ z .if1 .left) in
-    let second = second-inside (a .array) (a .stripe) (a .member) (a .content .now) (a .bytes .now) (p .parity-member .result) (v .moved-parity .result) (w .write-block .last .1 .1 .1 .1 .1 .0) h
-    (p .parity-member .ensures) (v .moved-parity .ensures) (w .write-block .ensures) in (
+    (s .pre, (h .size, (h .own, g .guard2 .ensures)))
+
+sub-write-block : tie.Need-sub-write-block
+sub-write-block c = search needs
+
+part-write-block-start : tie.Need-part-write-block-start
+part-write-block-start c = search needs
+
+part-write-block-end : tie.Need-part-write-block-end
+part-write-block-end c = let F = formatAt (c .before .before .before .before .before .before .before .before .before .before .before .before .before .before .before .before .before .before .args .array) in omega (arith, F .data-most, c .before .before .before .before .before .before .before .before .before .before .before .data-length .ensures)
+
+write-block-requires-2 : tie.Need-write-block-requires-2
+write-block-requires-2 c κs =
+    let w = c .before .before .before .before .before in
+    let g = c .before .before .before .before .before .before .before .before in
+    let v = c .before .before .before .before .before .before .before .before .before .before .before in
+    let d = c .before .before .before .before .before .before .before .before .before .before .before .before .before in
+    let p = d .before in
+    let z = p .before in
+    let r = z .before in
+    let s = r .before .before .before .before in
+    let a = s .args in
+    let F = formatAt (a .array) in
+    let h = inside (a .array) (a .stripe) (a .member) (length (a .content .now)) (a .bytes .now) (s .pre) (sym (r .replace-refusal .ensures) ∙ z .if1 .left) in
+    let moved = take (d .data-length .result - 0) (v .moved-parity .result) in
+    let same = lent-front _ (v .moved-parity .result) (d .data-length .result) (F .dataLength) (d .data-length .ensures) (v .moved-parity .ensures) in
+    let second = second-inside (a .array) (a .stripe) (a .member) (a .content .now) (a .bytes .now) (p .parity-member .result) moved (w .write-block .last .1 .1 .1 .1 .1 .0) h
+    (p .parity-member .ensures) same (w .write-block .ensures) in (
       ap (ownerRefusal (a .array) (a .stripe)) (p .parity-member .ensures) ∙ parity-sound (a .array) (a .stripe) (a .member) (s .pre),
-      (second .0, (second .1, g .guard2 .ensures)),
+      (second .0, (second .1, g .guard .ensures)),
     )
 
 same-length-2 : tie.Need-same-length-2
@@ -80,16 +104,20 @@ same-length-2 c = search needs
 returns-2 : tie.Need-returns-2
 returns-2 c =
     let u = c .before .before in
-    let w = u .before .before .before .before .before .before .before in
-    let v = w .before .before .before in
-    let p = v .before .before in
+    let w = c .before .before .before .before .before .before .before .before in
+    let v = c .before .before .before .before .before .before .before .before .before .before .before .before .before .before in
+    let d = c .before .before .before .before .before .before .before .before .before .before .before .before .before .before .before .before in
+    let p = d .before in
     let z = p .before in
     let r = z .before in
     let s = r .before .before .before .before in
     let a = s .args in
-    replace-done (a .array) (a .stripe) (a .member) (a .content .now) (a .bytes .now) (r .replace-refusal .result) (p .parity-member .result) (v .moved-parity .result)
+    let F = formatAt (a .array) in
+    let moved = take (d .data-length .result - 0) (v .moved-parity .result) in
+    let same = lent-front _ (v .moved-parity .result) (d .data-length .result) (F .dataLength) (d .data-length .ensures) (v .moved-parity .ensures) in
+    replace-done (a .array) (a .stripe) (a .member) (a .content .now) (a .bytes .now) (r .replace-refusal .result) (p .parity-member .result) moved
     (w .write-block .last .1 .1 .1 .1 .1 .0) (u .write-block2 .last .1 .1 .1 .1 .1 .0) (r .replace-refusal .ensures) (z .if1 .left)
-    (p .parity-member .ensures) (v .moved-parity .ensures) (w .write-block .ensures) (u .write-block2 .ensures)
+    (p .parity-member .ensures) same (w .write-block .ensures) (u .write-block2 .ensures)
 
 pub replace-spec : {M : Type 1} → statement M
 replace-spec =
@@ -99,12 +127,17 @@ replace-spec =
     same-length
     returns
     parity-member-requires
+    data-length-requires
     moved-parity-requires
+    sub-guard
+    part-guard-start
+    part-guard-end
     guard-requires
-    write-block-requires
-    slice-aggregate-write-block
-    slice-aggregate-guard
     guard-requires-2
+    write-block-requires
+    sub-write-block
+    part-write-block-start
+    part-write-block-end
     write-block-requires-2
     same-length-2
     returns-2)

@@ -1,0 +1,4 @@
+pub mod Sizes
+pub mod Combined
+pub mod Laws
+pub mod Ranges

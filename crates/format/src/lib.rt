@@ -1,0 +1,115 @@
+// The formats of a block by their method numbers: their lengths, where a byte of a block goes, and their guards. Today there is one, and
+// any number means it.
+mod positions;
+
+pub use positions::data_room;
+pub use positions::part_at;
+pub use positions::tag_place;
+ghost use mathlib.Core.Path.{_≡_};
+ghost use Prim.Native.Nat.{_*_};
+ghost use Rattle.format.specs.Formats.{guard, spare, guardsOf};
+ghost use Rattle.format.specs.Methods.{formatOf};
+
+// The method of every array, as long as its numbers name none.
+pub const METHOD: u8 = 1;
+
+// The most bytes of data, and of the tags of sixteen blocks, that any format has: room for those of each.
+pub const MOST_DATA: usize = 512;
+
+pub const MOST_TAGS: usize = 128;
+
+// What a byte of a block is, with its place among the bytes of its kind.
+pub enum Part {
+    Data { at: usize },
+    Guard { at: usize },
+    Application { at: usize },
+    Reference { at: usize },
+    Past,
+}
+
+// Bytes of data in a block, of tag after them, of both, and a quarter of the tag.
+pub fn data_length(method: u8) -> usize
+    ensures { λ r. ⌜ r ≡ formatOf method .dataLength ⌝ }
+{
+    512
+}
+
+pub fn tag_length(method: u8) -> usize
+    ensures { λ r. ⌜ r ≡ formatOf method .tagLength ⌝ }
+{
+    8
+}
+
+pub fn block_length(method: u8) -> usize
+    ensures { λ r. ⌜ r ≡ formatOf method .blockLength ⌝ }
+{
+    520
+}
+
+pub fn quarter(method: u8) -> usize
+    ensures { λ r. ⌜ r ≡ formatOf method .quarter ⌝ }
+{
+    2
+}
+
+// An application tag of two bytes, as the number that its field holds.
+pub fn scaled(method: u8, application: u16) -> u64
+    ensures { λ r. ⌜ r ≡ application * formatOf method .scale ⌝ }
+{
+    application as u64
+}
+
+// The guard of a block of zeros for an odd count, 0 for an even one.
+pub fn blank_if_odd(method: u8, count: usize) -> u32
+    ensures { λ r. ⌜ r ≡ spare (formatOf method) count ⌝ }
+{
+    0
+}
+
+// The guard of some data.
+pub fn guard(method: u8, bytes: &[u8]) -> u32
+    ensures { λ r. ⌜ r ≡ guard (formatOf method) (now (bytes .entry)) ⌝ }
+{
+    fold::guard(bytes) as u32
+}
+
+// The same sixteen numbers, wider.
+fn widened(narrow: [u16; 16]) -> [u32; 16]
+    ensures { λ r. ⌜ r ≡ narrow ⌝ }
+{
+    let mut wide = [0u32; 16];
+    let mut i: usize = 0;
+    while i < 16 {
+        wide[i] = narrow[i] as u32;
+        i += 1;
+    }
+    wide
+}
+
+// The guards of sixteen runs of data, each `stride` bytes after the one before. What lies past the end has no bytes.
+pub fn guards(method: u8, bytes: &[u8], stride: usize) -> [u32; 16]
+    ensures { λ r. ⌜ r ≡ guardsOf (formatOf method) 16 stride (now (bytes .entry)) ⌝ }
+{
+    widened(fold::guards(bytes, stride))
+}
+
+// Where a register starts.
+pub fn start(method: u8) -> u16
+    ensures { λ r. ⌜ r ≡ formatOf method .start ⌝ }
+{
+    0
+}
+
+// A register after bytes of data from a position on.
+pub fn advance(method: u8, at: usize, register: u16, bytes: &[u8]) -> u16
+    ensures { λ r. ⌜ r ≡ formatOf method .advance at register (now (bytes .entry)) ⌝ }
+{
+    fold::run(register, bytes)
+}
+
+// The guard that a register gives.
+pub fn guard_of(method: u8, register: u16) -> u32
+    ensures { λ r. ⌜ r ≡ formatOf method .guardOf register ⌝ }
+{
+    register as u32
+}

@@ -1,0 +1,16 @@
+-- `lines::header::form_of` is `formOf`, row by row. Assumes nothing.
+use borrow.Author.Tests.{ne-eqb}
+use Rattle.lines.specs.Headers.{formOf}
+use Rattle.lines.proofs.header.form_of.Statement.{statement}
+use Rattle.lines.proofs.header.form_of.Tie as tie
+
+returns : tie.Need-returns
+unfolding formOf
+returns c = rw (c .if1 .taken)
+
+returns-2 : tie.Need-returns-2
+unfolding formOf
+returns-2 c = rw (ne-eqb _ 1 (c .if1 .left))
+
+pub form-of-spec : {M : Type 1} → statement M
+form-of-spec = tie.close (tie.spec returns returns-2)
