@@ -1,7 +1,8 @@
-pub mod Taken
+pub mod Turning
+pub mod Folding
+pub mod Rows
+pub mod Quads
+pub mod Shortened
+pub mod Blocks
+pub mod Stored
 pub mod Strides
-pub mod Buffers
-pub mod Multiples
-pub mod Nears
-pub mod Carrying
-pub mod Puts

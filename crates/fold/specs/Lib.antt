@@ -1,3 +1,3 @@
-pub mod Folds
-pub mod Eights
+pub mod Reading
+pub mod Columns
 pub mod Many

@@ -1,16 +1,15 @@
--- Steps of the code, for the contracts of private functions: no promise of a public call rests on these definitions.
--- Sixteen runs, eight at a time: where the second eight begin, and which guards are known so far. Assumes nothing.
+-- Sixteen runs: how many of them are whole, and which guards are known so far. Assumes nothing.
 use mathlib.Core.Path.{_≡_}
 use mathlib.Core.List.{List}
-use mathlib.Core.Bool.{cond, _&&_}
-use Prim.Native.Nat.{ℕ, _-_, _*_, _<_}
+use Prim.Native.Nat.{ℕ, _+_, _*_, _≤_, _<_}
 use lib.ListN.{getD, take, drop}
-use lib.Dec.{leb}
 use Rattle.crc.specs.Guard.{guard}
 
--- which run the second eight of sixteen begin with: the ninth, but the last eight go together where there are 11 to 15
-unfoldable pub secondOf : ℕ → ℕ
-secondOf runs = cond (leb 11 runs && leb runs 15) (runs - 8) 8
+-- of sixteen runs of 512 bytes, a stride apart in `end` bytes, the first n are whole and no other
+pub record Whole (stride end n : ℕ) : Type 0 where
+  pub few : n ≤ 16
+  pub within : (k : ℕ) → k < n → k * stride + 512 ≤ end
+  pub past : (k : ℕ) → n ≤ k → k < 16 → end < k * stride + 512
 
 -- the first n numbers of r are the guards of the first n runs, a stride apart
 abbrev pub Known : ℕ → List ℕ → List ℕ → ℕ → Type 0

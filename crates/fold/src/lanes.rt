@@ -1,162 +1,108 @@
-// Eight blocks side by side: their folds and their ways through the tables do not wait for one another.
-mod many;
+// A block in four lanes. Its first 224 bytes go 226, 230 and 248 places on, which leaves its guard as it is and meets no byte of their own; so
+// the other 288 hold it all, as nine rows of four words. A lane is what one word of each row comes to.
+mod reading;
 
-pub use many::guards;
 ghost use mathlib.Core.Path.{_≡_};
 ghost use Prim.Native.Nat.{ℕ, _+_, _*_, _≤_, _<_};
 ghost use lib.ListN.{length, getD};
-ghost use Rattle.crc.specs.Crc.{Bytes};
-ghost use Rattle.table.specs.Tables.{lows, highs};
-ghost use Rattle.crc.specs.Blocks.{guardsOf};
-ghost use Rattle.fold.specs.Folds.{Blank};
-ghost use Rattle.fold.specs.Eights.{Lanes, Ready, Head, Heads, Tails, Nears, Folded, Ran};
-use crate::chunk;
-use crate::near_tail;
-use crate::tail;
-use crate::two;
+ghost use lib.Bits.{bitXor};
+ghost use Rattle.words.specs.Words.{rest, act};
+ghost use Rattle.fold.specs.Reading.{leading, seen};
+ghost use Rattle.fold.specs.Columns.{column, brought, firstly, nine, Laned, Come};
+use reading::added;
+use reading::met;
+use reading::two;
+use reading::word;
+use words::past_row;
+use words::past_six_rows;
+use words::past_two_rows;
 
-// Takes away 32 bytes more of each of eight blocks: each byte goes 36, 56 and 63 places on.
-fn row(b: &[u8], stride: usize, w: &mut [u8], i: usize)
-    requires { ⌜ 7 * stride + 512 ≤ length (now b) ⌝ }
-    requires { ⌜ (length (now w) ≡ 4608) × (i + 32 ≤ 448) ⌝ }
-    requires { ⌜ Lanes stride (now b) (now w) i ⌝ }
-    ensures { λ _. ⌜ (length (now (w .exit)) ≡ 4608) × Lanes stride (now (b .entry)) (now (w .exit)) (i + 32) ⌝ }
+// A register as the first two bytes of a word that is read.
+fn lead(register: u16) -> u64
+    ensures { λ r. ⌜ r ≡ act leading register ⌝ }
 {
+    let v = register as u64;
+    v >> 8 ^ v % 256 << 8
+}
+
+// What is carried to the first word of each lane, and the register, which goes with the first two bytes.
+fn firsts(register: u16, b: &[u8]) -> [u64; 4]
+    requires { ⌜ length (now b) ≡ 512 ⌝ }
+    ensures { λ r. ⌜ ((l : ℕ) → l < 4 → seen (getD r l 0) ≡ bitXor (brought (now (b .entry)) (8 * l)) (firstly register l)) ⌝ }
+{
+    let start = word(b, 0) ^ lead(register);
+    let second = two(b, 2, 6);
+    let third = two(b, 10, 14);
+    let fourth = two(b, 18, 22);
+    [start << 48 ^ start << 16, second, third, start ^ fourth]
+}
+
+// What is carried to the last word but one of each lane.
+fn lasts(b: &[u8]) -> [u64; 4]
+    requires { ⌜ length (now b) ≡ 512 ⌝ }
+    ensures { λ r. ⌜ ((l : ℕ) → l < 4 → seen (getD r l 0) ≡ brought (now (b .entry)) (224 + 8 * l)) ⌝ }
+{
+    let first = word(b, 200) ^ word(b, 218) % 0x1000000000000 ^ word(b, 222) % 0x10000;
+    let second = word(b, 208);
+    let third = word(b, 216);
+    [first, second, third, 0]
+}
+
+// What the nine words of a lane come to, a row apart: the first three go six rows on, the others one or two, none far down a chain. They are
+// read in the order in which memory gives them soonest.
+fn lane(b: &[u8], p: usize, first: u64, last: u64) -> u64
+    requires { ⌜ p + 488 ≤ length (now b) ⌝ }
+    ensures { λ r. ⌜ rest r ≡ column (nine (seen first) (seen last) (now (b .entry)) p) ⌝ }
+{
+    let ninth = added(b, p + 480, 0);
+    let front = added(b, p + 224, first);
+    let eighth = added(b, p + 448, last);
+    let second = met(b, p + 256, p + 8);
+    let third = met(b, p + 288, p + 40);
+    let fourth = met(b, p + 320, p + 72);
+    let fifth = met(b, p + 352, p + 104);
+    let sixth = met(b, p + 384, p + 136);
+    let seventh = met(b, p + 416, p + 168);
+    let from_front = past_six_rows(front, seventh);
+    let from_second = past_six_rows(second, eighth);
+    let from_third = past_six_rows(third, ninth);
+    let to_fifth = past_row(fourth, fifth);
+    let to_seventh = past_row(sixth, past_two_rows(to_fifth, from_front));
+    past_row(from_second, past_two_rows(to_seventh, from_third))
+}
+
+// The four lanes of a block.
+fn lanes(register: u16, b: &[u8]) -> [u64; 4]
+    requires { ⌜ length (now b) ≡ 512 ⌝ }
+    ensures { λ r. ⌜ Laned register (now (b .entry)) r 4 ⌝ }
+{
+    let mut out = [0u64; 4];
+    let last = lasts(b);
+    let first = firsts(register, b);
     let mut l: usize = 0;
-    while l < 8 {
-        chunk(32, 64, 28, 8, 1, b, l * stride + i, w, l * 576 + i);
+    while l < 4 {
+        out[l] = lane(b, 8 * l, first[l], last[l]);
         l += 1;
     }
+    out
 }
 
-// Takes away 448 bytes of each of eight blocks.
-fn rows(b: &[u8], stride: usize, w: &mut [u8])
-    requires { ⌜ 7 * stride + 512 ≤ length (now b) ⌝ }
-    requires { ⌜ length (now w) ≡ 4608 ⌝ }
-    requires { ⌜ Lanes stride (now b) (now w) 0 ⌝ }
-    ensures { λ _. ⌜ (length (now (w .exit)) ≡ 4608) × Bytes (now (w .exit)) × Lanes stride (now (b .entry)) (now (w .exit)) 448 ⌝ }
+// The lanes of some blocks, each `stride` bytes after the one before, four words a block.
+pub fn columns(register: u16, b: &[u8], stride: usize, count: usize, out: &mut [u64])
+    requires { ⌜ ((k : ℕ) → k < count → k * stride + 512 ≤ length (now b)) ⌝ }
+    requires { ⌜ 4 * count ≤ length (now out) ⌝ }
+    ensures { λ _. ⌜ (length (now (out .exit)) ≡ length (now (out .entry))) × Come register stride (now (b .entry)) (now (out .exit)) count ⌝ }
 {
-    let mut i: usize = 0;
-    while i < 417 {
-        row(b, stride, w, i);
-        i += 32;
+    let mut k: usize = 0;
+    while k < count {
+        let from = k * stride;
+        let end = from + 512;
+        let words = lanes(register, &b[from..end]);
+        let at = 4 * k;
+        out[at] = words[0];
+        out[at + 1] = words[1];
+        out[at + 2] = words[2];
+        out[at + 3] = words[3];
+        k += 1;
     }
-}
-
-// The first 24 of the 64 bytes that are left of a block, into zeros. 32 are written, as vectors go, and the last 8 cleared again.
-fn head(b: &[u8], p: usize, w: &[u8], q: usize, v: &mut [u8], s: usize)
-    requires { ⌜ (p + 512 ≤ length (now b)) × (q + 576 ≤ length (now w)) ⌝ }
-    requires { ⌜ (s + 104 ≤ length (now v)) × ((j : ℕ) → s ≤ j → getD (now v) j 0 ≡ 0) ⌝ }
-    ensures { λ _. ⌜ (length (now (v .exit)) ≡ length (now (v .entry))) × ((j : ℕ) → j < s → getD (now (v .exit)) j 0 ≡ getD (now (v .entry)) j 0) ⌝ }
-    ensures { λ _. ⌜ Head (now (b .entry)) p (now (w .entry)) q (now (v .exit)) s × ((j : ℕ) → s + 104 ≤ j → getD (now (v .exit)) j 0 ≡ 0) ⌝ }
-{
-    tail(448, 32, 28, 8, 1, b, p, w, q, v, s + 40);
-    let mut j: usize = 0;
-    while j < 8 {
-        v[s + 64 + j] = 0;
-        j += 1;
-    }
-}
-
-// The first 24 of the 64 bytes that are left of each of eight blocks.
-fn heads(b: &[u8], stride: usize, w: &[u8], v: &mut [u8])
-    requires { ⌜ 7 * stride + 512 ≤ length (now b) ⌝ }
-    requires { ⌜ length (now w) ≡ 4608 ⌝ }
-    requires { ⌜ (length (now v) ≡ 832) × Blank (now v) ⌝ }
-    ensures { λ _. ⌜ (length (now (v .exit)) ≡ 832) × Bytes (now (v .exit)) × Heads stride (now (b .entry)) (now (w .entry)) (now (v .exit)) 8 ⌝ }
-{
-    let mut l: usize = 0;
-    while l < 8 {
-        head(b, l * stride, w, l * 576, v, l * 104);
-        l += 1;
-    }
-}
-
-// The last 48 of the 64 bytes that are left of each of eight blocks.
-fn tails(b: &[u8], stride: usize, w: &[u8], t: &mut [u8])
-    requires { ⌜ 7 * stride + 512 ≤ length (now b) ⌝ }
-    requires { ⌜ length (now w) ≡ 4608 ⌝ }
-    requires { ⌜ length (now t) ≡ 512 ⌝ }
-    ensures { λ _. ⌜ (length (now (t .exit)) ≡ 512) × Tails stride (now (b .entry)) (now (w .entry)) (now (t .exit)) 8 ⌝ }
-{
-    let mut l: usize = 0;
-    while l < 8 {
-        tail(464, 48, 28, 8, 1, b, l * stride, w, l * 576, t, l * 64 + 16);
-        l += 1;
-    }
-}
-
-// Takes away 24 of the 64 bytes that are left of each of eight blocks: each goes 24, 29, 32 and 39 places on. The other 40 are wanted; 48 are
-// written, as vectors go.
-fn nears(t: &[u8], v: &[u8], u: &mut [u8])
-    requires { ⌜ (length (now t) ≡ 512) × (length (now v) ≡ 832) ⌝ }
-    requires { ⌜ length (now u) ≡ 512 ⌝ }
-    ensures { λ _. ⌜ (length (now (u .exit)) ≡ 512) × Nears (now (t .entry)) (now (v .entry)) (now (u .exit)) 8 ⌝ }
-{
-    let mut l: usize = 0;
-    while l < 8 {
-        near_tail(16, 48, t, l * 64, v, l * 104, u, l * 64 + 16);
-        l += 1;
-    }
-}
-
-// Folds eight blocks to the last 40 bytes of eight pieces of 64. The buffer w is lent, so that its zeros are made once.
-fn fold_eight(b: &[u8], stride: usize, w: &mut [u8]) -> [u8; 512]
-    requires { ⌜ 7 * stride + 512 ≤ length (now b) ⌝ }
-    requires { ⌜ (length (now w) ≡ 4608) × Ready (now w) ⌝ }
-    ensures { λ u. ⌜ Folded stride (now (b .entry)) u ⌝ }
-    ensures { λ _. ⌜ (length (now (w .exit)) ≡ 4608) × Ready (now (w .exit)) ⌝ }
-{
-    rows(b, stride, w);
-    let mut v = [0u8; 832];
-    heads(b, stride, w, &mut v);
-    let mut t = [0u8; 512];
-    tails(b, stride, w, &mut t);
-    let mut u = [0u8; 512];
-    nears(&t, &v, &mut u);
-    u
-}
-
-// Two bytes more of the last 40 of each of eight pieces of 64, by the tables.
-fn turn(high: &[u16; 256], low: &[u16; 256], u: &[u8], i: usize, r: &mut [u16])
-    requires { ⌜ now high ≡ highs ⌝ }
-    requires { ⌜ now low ≡ lows ⌝ }
-    requires { ⌜ (length (now u) ≡ 512) × (i + 2 ≤ 40) × (length (now r) ≡ 8) × Ran (now u) (now r) i ⌝ }
-    ensures { λ _. ⌜ (length (now (r .exit)) ≡ 8) × Ran (now (u .entry)) (now (r .exit)) (i + 2) ⌝ }
-{
-    let mut l: usize = 0;
-    while l < 8 {
-        let at = l * 64 + 24 + i;
-        r[l] = two(high, low, r[l], u[at], u[at + 1]);
-        l += 1;
-    }
-}
-
-// The guards of the last 40 bytes of eight pieces of 64.
-fn ends(high: &[u16; 256], low: &[u16; 256], u: &[u8], r: &mut [u16])
-    requires { ⌜ now high ≡ highs ⌝ }
-    requires { ⌜ now low ≡ lows ⌝ }
-    requires { ⌜ (length (now u) ≡ 512) × (length (now r) ≡ 8) × Ran (now u) (now r) 0 ⌝ }
-    ensures { λ _. ⌜ (length (now (r .exit)) ≡ 8) × Ran (now (u .entry)) (now (r .exit)) 40 ⌝ }
-{
-    let mut i: usize = 0;
-    while i < 40 {
-        turn(high, low, u, i, r);
-        i += 2;
-    }
-}
-
-// The guards of eight runs of 512 bytes, side by side.
-fn beside(high: &[u16; 256], low: &[u16; 256], b: &[u8], stride: usize, w: &mut [u8]) -> [u16; 8]
-    requires { ⌜ now high ≡ highs ⌝ }
-    requires { ⌜ now low ≡ lows ⌝ }
-    requires { ⌜ 7 * stride + 512 ≤ length (now b) ⌝ }
-    requires { ⌜ (length (now w) ≡ 4608) × Ready (now w) ⌝ }
-    ensures { λ r. ⌜ r ≡ guardsOf 8 stride (now (b .entry)) ⌝ }
-    ensures { λ _. ⌜ (length (now (w .exit)) ≡ 4608) × Ready (now (w .exit)) ⌝ }
-{
-    let u = fold_eight(b, stride, w);
-    let mut r = [0u16; 8];
-    ends(high, low, &u, &mut r);
-    r
 }

@@ -10,15 +10,23 @@ use borrow.Author.Needs.{needs}
 use Rattle.fold.proofs.by_tables.Statement.{statement}
 use Rattle.fold.proofs.by_tables.Tie as tie
 
+high-table-requires : tie.Need-high-table-requires
+high-table-requires c κs = search needs
+
+low-table-requires : tie.Need-low-table-requires
+low-table-requires c κs = search needs
+
 through-requires : tie.Need-through-requires
 through-requires c κs = search needs
 
 returns : tie.Need-returns
 returns c =
-    let s = c .before .before in
-    let a = s .args in
-    c .through .ensures ∙ ap₂ (λ (h l : List ℕ). lookRun h l (a .register) (a .bytes .now)) (s .pre .0) (s .pre .1)
-    ∙ run-by-tables (a .register) (a .bytes .now) (search needs) (λ k. omega (arith, c .before .shared-slice-known .given k))
+    let t = c .before .before .before in
+    let s = t .before .before in
+    let a = s .before .args in
+    c .through .ensures ∙ ap₂ (λ (h l : List ℕ). lookRun h l (a .register) (a .bytes .now)) (t .before .high-table .ensures) (t .low-table .ensures)
+    ∙ run-by-tables (a .register) (a .bytes .now) (search needs) (λ k. omega (arith, s .shared-slice-known .given k))
 
 pub by-tables-spec : {M : Type 1} → statement M
-by-tables-spec = tie.close (tie.spec through-requires returns)
+by-tables-spec =
+    tie.close (tie.spec high-table-requires low-table-requires through-requires returns)

@@ -1,7 +1,7 @@
 -- `fold::guard` meets its contract.
 -- Assumes nothing.
-use borrow.Author.Needs.{needs}
 use Rattle.crc.specs.Guard.{guard}
+use borrow.Author.Needs.{needs}
 use Rattle.fold.proofs.guard.Statement.{statement}
 use Rattle.fold.proofs.guard.Tie as tie
 
