@@ -1,7 +1,10 @@
 // A block in four lanes. Its first 224 bytes go 226, 230 and 248 places on, which leaves its guard as it is and meets no byte of their own; so
 // the other 288 hold it all, as nine rows of four words. A lane is what one word of each row comes to.
-mod reading;
+mod calls;
 
+pub use calls::guard;
+pub use calls::guards;
+pub use calls::run;
 ghost use mathlib.Core.Path.{_≡_};
 ghost use Prim.Native.Nat.{ℕ, _+_, _*_, _≤_, _<_};
 ghost use lib.ListN.{length, getD};
@@ -9,10 +12,10 @@ ghost use lib.Bits.{bitXor};
 ghost use Rattle.words.specs.Words.{rest, act};
 ghost use Rattle.fold.specs.Reading.{leading, seen};
 ghost use Rattle.fold.specs.Columns.{column, brought, firstly, nine, Laned, Come};
-use reading::added;
-use reading::met;
-use reading::two;
-use reading::word;
+use crate::added;
+use crate::met;
+use crate::two;
+use crate::word;
 use words::past_row;
 use words::past_six_rows;
 use words::past_two_rows;
@@ -88,7 +91,7 @@ fn lanes(register: u16, b: &[u8]) -> [u64; 4]
 }
 
 // The lanes of some blocks, each `stride` bytes after the one before, four words a block.
-pub fn columns(register: u16, b: &[u8], stride: usize, count: usize, out: &mut [u64])
+fn columns(register: u16, b: &[u8], stride: usize, count: usize, out: &mut [u64])
     requires { ⌜ ((k : ℕ) → k < count → k * stride + 512 ≤ length (now b)) ⌝ }
     requires { ⌜ 4 * count ≤ length (now out) ⌝ }
     ensures { λ _. ⌜ (length (now (out .exit)) ≡ length (now (out .entry))) × Come register stride (now (b .entry)) (now (out .exit)) count ⌝ }

@@ -1,58 +1,61 @@
-// Guards fast: a block of 512 bytes by four lanes of words, any other run by two tables, two bytes at a time.
+// Guards fast: a block of 512 bytes by four lanes of words, any other run by two tables, two bytes at a time. Here are the words as they are
+// read, the first byte the lowest: their bytes are turned round once they are added up. `lanes` makes a block of them, and the calls.
 mod lanes;
-mod many;
 
-pub use many::guards;
+pub use lanes::guard;
+pub use lanes::guards;
+pub use lanes::run;
 ghost use mathlib.Core.Path.{_≡_};
+ghost use Prim.Native.Nat.{_+_, _≤_};
 ghost use lib.ListN.{length};
-ghost use Rattle.crc.specs.Guard.{run, guard};
+ghost use lib.Bits.{bitXor};
 ghost use Rattle.words.specs.Words.{rest};
-ghost use Rattle.nibbles.specs.Nibbles.{nibbles};
-use lanes::columns;
+ghost use Rattle.fold.specs.Reading.{little, seen, piece};
+ghost use Rattle.fold.specs.Columns.{four};
+use words::turned;
 
-// What a word leaves, by the tables.
-fn end(tables: &[u16; 160], v: u64) -> u16
-    requires { ⌜ now tables ≡ nibbles ⌝ }
-    ensures { λ r. ⌜ r ≡ rest v ⌝ }
+// A byte as a word.
+fn wide(x: u8) -> u64
+    ensures { λ r. ⌜ r ≡ x ⌝ }
 {
-    nibbles::end(tables, v)
+    x as u64
 }
 
-// The register after a block.
-fn block(register: u16, bytes: &[u8]) -> u16
-    requires { ⌜ length (now bytes) ≡ 512 ⌝ }
-    ensures { λ r. ⌜ r ≡ run register (now (bytes .entry)) ⌝ }
+// Eight bytes as a word.
+fn word(b: &[u8], p: usize) -> u64
+    requires { ⌜ p + 8 ≤ length (now b) ⌝ }
+    ensures { λ r. ⌜ r ≡ little 7 (now (b .entry)) p ⌝ }
 {
-    let mut words = [0u64; 4];
-    columns(register, bytes, 0, 1, &mut words);
-    let joined = words::joined(words[0], words[1], words[2], words[3]);
-    let tables = nibbles::nibble_table();
-    end(&tables, joined)
+    wide(b[p + 7]) << 56
+        | wide(b[p + 6]) << 48
+        | wide(b[p + 5]) << 40
+        | wide(b[p + 4]) << 32
+        | wide(b[p + 3]) << 24
+        | wide(b[p + 2]) << 16
+        | wide(b[p + 1]) << 8
+        | wide(b[p])
 }
 
-// The register after a run of bytes, by two tables.
-fn by_tables(register: u16, bytes: &[u8]) -> u16
-    ensures { λ r. ⌜ r ≡ run register (now (bytes .entry)) ⌝ }
+// Two words added.
+fn two(b: &[u8], p: usize, q: usize) -> u64
+    requires { ⌜ (p + 8 ≤ length (now b)) × (q + 8 ≤ length (now b)) ⌝ }
+    ensures { λ r. ⌜ seen r ≡ bitXor (piece (now (b .entry)) p) (piece (now (b .entry)) q) ⌝ }
 {
-    let high = table::high_table();
-    let low = table::low_table();
-    table::through(&high, &low, register, bytes)
+    word(b, p) ^ word(b, q)
 }
 
-// The register after a run of bytes.
-pub fn run(register: u16, bytes: &[u8]) -> u16
-    ensures { λ r. ⌜ r ≡ run register (now (bytes .entry)) ⌝ }
+// A word with something added, turned.
+fn added(b: &[u8], p: usize, more: u64) -> u64
+    requires { ⌜ p + 8 ≤ length (now b) ⌝ }
+    ensures { λ r. ⌜ rest r ≡ bitXor (piece (now (b .entry)) p) (seen more) ⌝ }
 {
-    if bytes.len() == 512 {
-        block(register, bytes)
-    } else {
-        by_tables(register, bytes)
-    }
+    turned(word(b, p) ^ more)
 }
 
-// The guard of a run of bytes: the register starts at 0.
-pub fn guard(bytes: &[u8]) -> u16
-    ensures { λ r. ⌜ r ≡ guard (now (bytes .entry)) ⌝ }
+// Four words that meet, turned.
+fn met(b: &[u8], p: usize, q: usize) -> u64
+    requires { ⌜ (p + 8 ≤ length (now b)) × (q + 30 ≤ length (now b)) ⌝ }
+    ensures { λ r. ⌜ rest r ≡ four (now (b .entry)) p q ⌝ }
 {
-    run(0, bytes)
+    turned(word(b, p) ^ word(b, q) ^ word(b, q + 18) ^ word(b, q + 22))
 }
