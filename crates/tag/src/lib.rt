@@ -1,9 +1,10 @@
 // The tag of a block: what is due at a place, and a block checked against it.
+use copy::put;
 use format::METHOD;
 use layout::Array;
 use layout::Owned;
 ghost use mathlib.Core.Path.{_≡_};
-ghost use mathlib.Core.List.{_∷_};
+ghost use mathlib.Core.List.{_∷_, _++_};
 ghost use Prim.Native.Nat.{_+_, _*_, _/_, _%_, _^_, _<_, _≤_};
 ghost use lib.ListN.{length, take, drop};
 ghost use lib.Seq.{sets};
@@ -84,31 +85,23 @@ fn put_number(bytes: &mut [u8], at: usize, count: usize, number: u64)
     }
 }
 
-// The same of two bytes, without a loop.
-fn put_two(bytes: &mut [u8], at: usize, number: u64)
-    requires { ⌜ at + 2 ≤ length (now bytes) ⌝ }
-    ensures { λ _. ⌜ now (bytes .exit) ≡ sets (now (bytes .entry)) at (bytesOf 2 number) ⌝ }
+// The eight bytes of a tag whose quarter is two bytes, as most are: made whole, so that they are stored at once.
+fn eight_bytes(fields: Fields) -> [u8; 8]
+    ensures { λ r. ⌜ r ≡ bytesOf 2 (fields .guard) ++ bytesOf 2 (fields .application) ++ bytesOf 4 (fields .reference) ⌝ }
 {
-    bytes[at] = byte_above(number, 1);
-    bytes[at + 1] = byte_above(number, 0);
-}
-
-// The same of any count: short numbers, which the tags of small blocks hold, go without a loop.
-fn put_field(bytes: &mut [u8], at: usize, count: usize, number: u64)
-    requires { ⌜ at + count ≤ length (now bytes) ⌝ }
-    requires { ⌜ count ≤ 8 ⌝ }
-    ensures { λ _. ⌜ now (bytes .exit) ≡ sets (now (bytes .entry)) at (bytesOf count number) ⌝ }
-{
-    if count == 2 {
-        put_two(bytes, at, number);
-        return;
-    }
-    if count == 4 {
-        put_two(bytes, at, number / 65536);
-        put_two(bytes, at + 2, number);
-        return;
-    }
-    put_number(bytes, at, count, number);
+    let guard = fields.guard;
+    let application = fields.application;
+    let reference = fields.reference;
+    [
+        byte_above(guard, 1),
+        byte_above(guard, 0),
+        byte_above(application, 1),
+        byte_above(application, 0),
+        byte_above(reference, 3),
+        byte_above(reference, 2),
+        byte_above(reference, 1),
+        byte_above(reference, 0),
+    ]
 }
 
 // The fields of a tag that begins at a place of a slice; zeros where it does not all lie there.
@@ -158,12 +151,17 @@ pub fn write(method: u8, fields: Fields, bytes: &mut [u8], at: usize)
     if length - tag < at {
         return;
     }
+    if quarter == 2 {
+        let tag = eight_bytes(fields);
+        put(bytes, at, &tag);
+        return;
+    }
     let second = at + quarter;
     let half = 2 * quarter;
     let third = at + half;
-    put_field(bytes, at, quarter, guard);
-    put_field(bytes, second, quarter, application);
-    put_field(bytes, third, half, reference);
+    put_number(bytes, at, quarter, guard);
+    put_number(bytes, second, quarter, application);
+    put_number(bytes, third, half, reference);
 }
 
 // The fields due at a place to a block whose data have this guard; zeros where there is no such place.
