@@ -30,6 +30,7 @@ fn main() {
     println!("cargo::rustc-env=BENCH_RUSTC={}", version.trim());
 }
 
+/// Both archives of the library. As they have the same functions, those of the second get a mark before their names.
 fn library() {
     let folder = env::var("IRUMBOLAI_LIBRARY")
         .unwrap_or_else(|_| format!("{}/../target/staticlib", env!("CARGO_MANIFEST_DIR")));
@@ -38,6 +39,31 @@ fn library() {
     println!("cargo::rerun-if-changed={folder}/libirumbolai.a");
     println!("cargo::rustc-link-search=native={folder}");
     println!("cargo::rustc-link-lib=static=irumbolai");
+    let second = format!("{folder}/libirumbolai-v3.a");
+    println!("cargo::rerun-if-changed={second}");
+    let out = env::var("OUT_DIR").expect("cargo names a folder");
+    mark(Path::new(&second), &Path::new(&out).join("libmarked.a"));
+    println!("cargo::rustc-link-search=native={out}");
+    println!("cargo::rustc-link-lib=static=marked");
+}
+
+/// Copies an archive, with a mark before the name of each function that it exports.
+fn mark(from: &Path, to: &Path) {
+    let listed = Command::new("nm")
+        .args(["--extern-only", "--defined-only", "--format=posix"])
+        .arg(from)
+        .output()
+        .expect("nm runs");
+    assert!(listed.status.success(), "nm reads {}", from.display());
+    let listed = String::from_utf8(listed.stdout).expect("names are text");
+    let names = listed.lines().filter_map(|line| line.split_once(" T "));
+    let marks = names.map(|(name, _)| format!("--redefine-sym={name}=v3_{name}"));
+    let marked = Command::new("objcopy")
+        .args(marks)
+        .args([from, to])
+        .status()
+        .expect("objcopy runs");
+    assert!(marked.success(), "objcopy writes {}", to.display());
 }
 
 /// ISA-L's version, if a C program can be linked with it and runs.

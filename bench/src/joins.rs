@@ -1,9 +1,9 @@
 //! A join of two guards, beside what it spares: going through the second run again, which comes from memory.
 
-use crate::library;
+use crate::library::{self, Plain};
 use crate::peers::{Isal, Ordinary, Peer};
 use crate::random::{self, Random};
-use crate::rows::CONTESTANTS;
+use crate::rows::{ISAL, MEMCPY, ORDINARY};
 use crate::timing::{is_here, keep, timed};
 use std::hint::black_box;
 
@@ -20,6 +20,12 @@ const MEMORY: usize = 256 << 20;
 
 /// A turn joins so many times, each when the join before is known.
 const JOINS: usize = 10_000;
+
+/// The join, the ordinary program, ISA-L, memcpy.
+pub const COLUMNS: usize = 4;
+
+/// Goes through a run, or copies it.
+type Peers = fn(&[u8], &mut [u8]) -> u16;
 
 pub struct Ground {
     bytes: Vec<u8>,
@@ -49,23 +55,25 @@ impl Ground {
         (black_box(run), &mut self.copy[..length])
     }
 
-    /// The best time of a join with a run of a length, and of each peer that goes through the run; in nanoseconds.
-    pub fn best(&mut self, length: usize) -> [Option<f64>; CONTESTANTS] {
-        let mut best = [None; CONTESTANTS];
+    /// The best time of a join with a run of a length, then of each peer that goes through the run; in nanoseconds.
+    pub fn best(&mut self, length: usize) -> [Option<f64>; COLUMNS] {
+        let mut best = [None; COLUMNS];
         best[0] = Some(join(length as u32));
-        let peers: [fn(&[u8], &mut [u8]) -> u16; CONTESTANTS - 1] = [
-            |run, _| Ordinary::go_on(0x8BB7, run),
-            |run, _| Isal::go_on(0x8BB7, run),
-            |run, copy| {
+        let peers: [(usize, Peers); COLUMNS - 1] = [
+            (ORDINARY, |run, _| Ordinary::go_on(0x8BB7, run)),
+            (ISAL, |run, _| Isal::go_on(0x8BB7, run)),
+            (MEMCPY, |run, copy| {
                 copy.copy_from_slice(run);
                 black_box(copy);
                 0
-            },
+            }),
         ];
         for _ in 0..ROUNDS {
-            for (who, peer) in (1..).zip(peers).filter(|(who, _)| is_here(*who)) {
-                let (run, copy) = self.run(length);
-                keep(&mut best[who], timed(|| peer(run, copy)));
+            for (column, (who, peer)) in (1..).zip(peers) {
+                if is_here(who) {
+                    let (run, copy) = self.run(length);
+                    keep(&mut best[column], timed(|| peer(run, copy)));
+                }
             }
         }
         best
@@ -75,9 +83,9 @@ impl Ground {
     pub fn compare(&mut self) {
         for length in LENGTHS {
             let (run, _) = self.run(length);
-            let due = library::join(0x8BB7, library::guard(run), length as u32);
+            let due = library::join::<Plain>(0x8BB7, library::guard::<Plain>(run), length as u32);
             assert_eq!(Ordinary::go_on(0x8BB7, run), due, "a join, ordinary");
-            if is_here(crate::rows::ISAL) {
+            if is_here(ISAL) {
                 assert_eq!(Isal::go_on(0x8BB7, run), due, "a join, ISA-L");
             }
         }
@@ -90,7 +98,7 @@ pub fn join(length: u32) -> f64 {
     for _ in 0..ROUNDS {
         let time = timed(|| {
             (0..JOINS).fold(black_box(0x8BB7), |last, _| {
-                library::join(last, 0x1234, length)
+                library::join::<Plain>(last, 0x1234, length)
             })
         });
         keep(&mut best, time / JOINS as f64);

@@ -1,4 +1,4 @@
-//! The calls of include/irumbolai.h that are measured, on the one array of this program.
+//! The calls of include/irumbolai.h that are measured, of either archive, on the one array of this program.
 
 use crate::stripes::{BLOCK, MEMBERS, STRIPES, VOLUME, Verdict};
 
@@ -32,21 +32,58 @@ struct Guards {
     guard: [u16; MEMBERS],
 }
 
-mod c {
-    use super::{Answer, Guards, Scan, Taken};
+/// Declares the calls of both archives, which have the same functions; build.rs gives those of the second a mark before their names.
+macro_rules! calls {
+    ($($call:ident, $name:ident, $marked:literal, ($($argument:ident: $kind:ty),+) -> $answer:ty;)+) => {
+        pub struct Calls {
+            $($call: unsafe extern "C" fn($($kind),+) -> $answer,)+
+        }
 
-    #[rustfmt::skip]
-    unsafe extern "C" {
-        pub fn irumbolai_guard(bytes: *const u8, length: usize) -> u16;
-        pub fn irumbolai_guards(bytes: *const u8, length: usize, stride: usize) -> Guards;
-        pub fn irumbolai_join(a: u16, b: u16, length_of_b: u32) -> u16;
-        pub fn irumbolai_seal(members: usize, stripes: u64, volume: u8, stripe: u64, data: *const u8, data_length: usize, bytes: *mut u8, length: usize) -> u32;
-        pub fn irumbolai_rebuild(members: usize, stripes: u64, volume: u8, stripe: u64, member: usize, bytes: *mut u8, length: usize) -> u32;
-        pub fn irumbolai_scrub(members: usize, stripes: u64, volume: u8, stripe: u64, bytes: *const u8, length: usize) -> Answer;
-        pub fn irumbolai_start(members: usize, stripes: u64, volume: u8, stripe: u64, work: *mut u8, work_length: usize) -> Taken;
-        pub fn irumbolai_piece(state: Scan, member: usize, bytes: *const u8, length: usize, work: *mut u8, work_length: usize) -> Taken;
-        pub fn irumbolai_finish(state: Scan, work: *const u8, work_length: usize) -> Answer;
-    }
+        mod plain {
+            use super::{Answer, Guards, Scan, Taken};
+            unsafe extern "C" {
+                $(pub fn $name($($argument: $kind),+) -> $answer;)+
+            }
+        }
+
+        mod v3 {
+            use super::{Answer, Guards, Scan, Taken};
+            unsafe extern "C" {
+                $(#[link_name = $marked] pub fn $name($($argument: $kind),+) -> $answer;)+
+            }
+        }
+
+        impl Archive for Plain {
+            const CALLS: Calls = Calls { $($call: plain::$name),+ };
+        }
+
+        impl Archive for V3 {
+            const CALLS: Calls = Calls { $($call: v3::$name),+ };
+        }
+    };
+}
+
+pub trait Archive {
+    const CALLS: Calls;
+}
+
+/// libirumbolai.a, for every x86-64.
+pub struct Plain;
+
+/// libirumbolai-v3.a, for those with AVX2.
+pub struct V3;
+
+#[rustfmt::skip]
+calls! {
+    guard, irumbolai_guard, "v3_irumbolai_guard", (bytes: *const u8, length: usize) -> u16;
+    guards, irumbolai_guards, "v3_irumbolai_guards", (bytes: *const u8, length: usize, stride: usize) -> Guards;
+    join, irumbolai_join, "v3_irumbolai_join", (a: u16, b: u16, length_of_b: u32) -> u16;
+    seal, irumbolai_seal, "v3_irumbolai_seal", (members: usize, stripes: u64, volume: u8, stripe: u64, data: *const u8, data_length: usize, bytes: *mut u8, length: usize) -> u32;
+    rebuild, irumbolai_rebuild, "v3_irumbolai_rebuild", (members: usize, stripes: u64, volume: u8, stripe: u64, member: usize, bytes: *mut u8, length: usize) -> u32;
+    scrub, irumbolai_scrub, "v3_irumbolai_scrub", (members: usize, stripes: u64, volume: u8, stripe: u64, bytes: *const u8, length: usize) -> Answer;
+    start, irumbolai_start, "v3_irumbolai_start", (members: usize, stripes: u64, volume: u8, stripe: u64, work: *mut u8, work_length: usize) -> Taken;
+    piece, irumbolai_piece, "v3_irumbolai_piece", (state: Scan, member: usize, bytes: *const u8, length: usize, work: *mut u8, work_length: usize) -> Taken;
+    finish, irumbolai_finish, "v3_irumbolai_finish", (state: Scan, work: *const u8, work_length: usize) -> Answer;
 }
 
 // SAFETY, for every call: each pointer comes with the length of its own buffer, which is lent for the call alone,
@@ -54,52 +91,56 @@ mod c {
 
 /// A call on the array of this program, whose numbers go first, one by one. No call is handed them elsewhere.
 macro_rules! on_array {
-    ($call:ident, $($rest:expr),+) => {
-        unsafe { c::$call(MEMBERS, STRIPES, VOLUME, $($rest),+) }
+    ($archive:ident, $call:ident, $($rest:expr),+) => {
+        unsafe { ($archive::CALLS.$call)(MEMBERS, STRIPES, VOLUME, $($rest),+) }
     };
 }
 
-pub fn guard(bytes: &[u8]) -> u16 {
-    unsafe { c::irumbolai_guard(bytes.as_ptr(), bytes.len()) }
+pub fn guard<A: Archive>(bytes: &[u8]) -> u16 {
+    unsafe { (A::CALLS.guard)(bytes.as_ptr(), bytes.len()) }
 }
 
 /// The guards of the blocks of a stripe, in one call.
-pub fn guards(bytes: &[u8]) -> [u16; MEMBERS] {
-    unsafe { c::irumbolai_guards(bytes.as_ptr(), bytes.len(), BLOCK) }.guard
+pub fn guards<A: Archive>(bytes: &[u8]) -> [u16; MEMBERS] {
+    unsafe { (A::CALLS.guards)(bytes.as_ptr(), bytes.len(), BLOCK) }.guard
 }
 
-pub fn join(a: u16, b: u16, length_of_b: u32) -> u16 {
-    unsafe { c::irumbolai_join(a, b, length_of_b) }
+pub fn join<A: Archive>(a: u16, b: u16, length_of_b: u32) -> u16 {
+    unsafe { (A::CALLS.join)(a, b, length_of_b) }
 }
 
 /// Makes a stripe of its data. Gives the refusal.
-pub fn seal(stripe: u64, data: &[u8], bytes: &mut [u8]) -> u32 {
+pub fn seal<A: Archive>(stripe: u64, data: &[u8], bytes: &mut [u8]) -> u32 {
     let (from, from_length) = (data.as_ptr(), data.len());
     let (to, to_length) = (bytes.as_mut_ptr(), bytes.len());
-    on_array!(irumbolai_seal, stripe, from, from_length, to, to_length)
+    on_array!(A, seal, stripe, from, from_length, to, to_length)
 }
 
 /// Gives the refusal.
-pub fn rebuild(stripe: u64, member: usize, bytes: &mut [u8]) -> u32 {
+pub fn rebuild<A: Archive>(stripe: u64, member: usize, bytes: &mut [u8]) -> u32 {
     let (to, length) = (bytes.as_mut_ptr(), bytes.len());
-    on_array!(irumbolai_rebuild, stripe, member, to, length)
+    on_array!(A, rebuild, stripe, member, to, length)
 }
 
-pub fn scrub(stripe: u64, bytes: &[u8]) -> Verdict {
+pub fn scrub<A: Archive>(stripe: u64, bytes: &[u8]) -> Verdict {
     let (from, length) = (bytes.as_ptr(), bytes.len());
-    verdict(on_array!(irumbolai_scrub, stripe, from, length))
+    verdict(on_array!(A, scrub, stripe, from, length))
 }
 
 /// A scan of a stripe, one piece for each of the blocks.
-pub fn scan<'a>(stripe: u64, blocks: impl Iterator<Item = &'a [u8]>, work: &mut [u8]) -> Verdict {
+pub fn scan<'a, A: Archive>(
+    stripe: u64,
+    blocks: impl Iterator<Item = &'a [u8]>,
+    work: &mut [u8],
+) -> Verdict {
     let (to, to_length) = (work.as_mut_ptr(), work.len());
-    let mut taken = on_array!(irumbolai_start, stripe, to, to_length);
+    let mut taken = on_array!(A, start, stripe, to, to_length);
     for (member, block) in blocks.enumerate() {
         let (from, length) = (block.as_ptr(), block.len());
-        taken = unsafe { c::irumbolai_piece(taken.state, member, from, length, to, to_length) };
+        taken = unsafe { (A::CALLS.piece)(taken.state, member, from, length, to, to_length) };
     }
     assert_eq!(taken.refusal, 0, "a piece is taken");
-    verdict(unsafe { c::irumbolai_finish(taken.state, to, to_length) })
+    verdict(unsafe { (A::CALLS.finish)(taken.state, to, to_length) })
 }
 
 fn verdict(answer: Answer) -> Verdict {

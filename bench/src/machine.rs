@@ -21,11 +21,25 @@ pub fn print() {
         load()
     );
     println!(
-        "The peers: {}, opt-level 3, for any {} processor; ISA-L {}.",
+        "The peers: {}, opt-level 3, for any {} processor (the exclusive-or of ISA-L v3 for those with AVX2); ISA-L {}.",
         env!("BENCH_RUSTC"),
         std::env::consts::ARCH,
         isal::VERSION.unwrap_or("is not installed and skipped (Debian: libisal-dev)")
     );
+}
+
+/// Whether the processor is one of x86-64-v3, for which the second archive is compiled.
+pub fn is_v3() -> bool {
+    #[cfg(target_arch = "x86_64")]
+    return is_x86_feature_detected!("avx2")
+        && is_x86_feature_detected!("bmi1")
+        && is_x86_feature_detected!("bmi2")
+        && is_x86_feature_detected!("f16c")
+        && is_x86_feature_detected!("fma")
+        && is_x86_feature_detected!("lzcnt")
+        && is_x86_feature_detected!("movbe");
+    #[cfg(not(target_arch = "x86_64"))]
+    false
 }
 
 fn cpu() -> String {

@@ -13,7 +13,7 @@ mod stripes;
 mod table;
 mod timing;
 
-use rows::{CONTESTANTS, IRUMBOLAI, ISAL, MEMCPY, ORDINARY, ROWS, Source};
+use rows::{CONTESTANTS, ISAL, ISAL_V3, MEMCPY, ORDINARY, PLAIN, ROWS, Source, V3};
 use std::env;
 use std::path::Path;
 use table::{Table, known, number};
@@ -23,22 +23,22 @@ fn main() {
     let words: Vec<String> = env::args().skip(1).collect();
     match words.iter().map(String::as_str).collect::<Vec<_>>()[..] {
         [report::PEER, name] => report::peer(name).expect("the image is whole"),
-        [program] => measure(Path::new(program)),
-        _ => panic!("one word wanted: the path of the report program"),
+        [plain, v3] => measure([Path::new(plain), Path::new(v3)]),
+        _ => panic!("two words wanted: the paths of the report program, plain and for v3"),
     }
 }
 
-fn measure(program: &Path) {
+fn measure(programs: [&Path; 2]) {
     ROWS.iter().for_each(timing::compare);
-    report::compare(program);
+    report::compare(programs);
     machine::print();
     println!();
     jobs();
     println!();
     joins();
-    let times = report::measure(program);
+    let times = report::measure(programs);
     println!();
-    programs(&times);
+    reports(&times);
     println!();
     shares(&times);
 }
@@ -48,26 +48,41 @@ fn rate(ours: Option<f64>, theirs: Option<f64>) -> Option<f64> {
     Some(theirs? / ours?)
 }
 
+/// Whose rates are told as multiples of whose, in the order of the columns.
+const PAIRS: [(usize, usize, &str); 6] = [
+    (PLAIN, ORDINARY, "plain × ordinary"),
+    (PLAIN, ISAL, "plain × ISA-L"),
+    (PLAIN, MEMCPY, "plain × memcpy"),
+    (V3, ORDINARY, "v3 × ordinary"),
+    (V3, ISAL_V3, "v3 × ISA-L v3"),
+    (V3, MEMCPY, "v3 × memcpy"),
+];
+
 fn rates(times: &[Option<f64>; CONTESTANTS]) -> impl Iterator<Item = String> {
-    [ORDINARY, ISAL, MEMCPY]
-        .map(|who| known(rate(times[IRUMBOLAI], times[who])))
+    PAIRS
         .into_iter()
+        .map(|(ours, theirs, _)| known(rate(times[ours], times[theirs])))
 }
 
 fn jobs() {
-    let mut table = Table::new(&[
+    let mut times = Table::new(&[
         "job",
         "bytes from",
         "ns for one",
-        "Irumbolai",
+        "plain",
+        "v3",
         "ordinary",
         "ISA-L",
+        "ISA-L v3",
         "memcpy",
-        "MB/s",
-        "× ordinary",
-        "× ISA-L",
-        "× memcpy",
     ]);
+    let heads = PAIRS.iter().map(|(_, _, head)| *head);
+    let mut ratios = Table::new(
+        &["job", "bytes from"]
+            .into_iter()
+            .chain(heads)
+            .collect::<Vec<_>>(),
+    );
     let mut ground = Ground::new();
     let mut all: Vec<_> = ROWS
         .iter()
@@ -79,18 +94,20 @@ fn jobs() {
             ground.turns(row, *source, best);
         }
     }
-    for (row, source, times) in all {
+    for (row, source, best) in all {
         let from = match source {
             Source::Cache => String::from("L1"),
             Source::Memory => format!("{} MiB", Ground::mebibytes()),
         };
-        let megabytes = times[IRUMBOLAI].map(|time| row.bytes as f64 * 1e3 / time);
-        let words = [row.name.to_string(), from, row.unit.to_string()];
-        let cells = words.into_iter().chain(times.map(known));
-        table.row(
-            cells
-                .chain([known(megabytes)])
-                .chain(rates(&times))
+        let place = [row.name.to_string(), from];
+        let unit = [row.unit.to_string()];
+        let rates = rates(&best);
+        ratios.row(place.clone().into_iter().chain(rates).collect());
+        times.row(
+            place
+                .into_iter()
+                .chain(unit)
+                .chain(best.map(known))
                 .collect(),
         );
     }
@@ -100,7 +117,11 @@ fn jobs() {
         timing::PASSES
     );
     println!();
-    table.print(3);
+    times.print(3);
+    println!();
+    println!("The same as rates:");
+    println!();
+    ratios.print(2);
 }
 
 fn joins() {
@@ -129,13 +150,15 @@ fn joins() {
     table.print(1);
 }
 
-fn programs(times: &report::Times) {
+fn reports(times: &report::Times) {
     let mut table = Table::new(&["program", "ms", "MB/s", "× cat"]);
     let of = times.programs;
     for (name, time) in [
-        ("Irumbolai's report program", of[IRUMBOLAI]),
+        ("Irumbolai's report program", of[PLAIN]),
+        ("Irumbolai's report program, v3", of[V3]),
         ("ordinary Rust report", of[ORDINARY]),
         ("Rust report over ISA-L", of[ISAL]),
+        ("Rust report over ISA-L v3", of[ISAL_V3]),
         ("`cat` to /dev/null", times.cat),
         ("memcpy in this process, no pipe", of[MEMCPY]),
     ] {
@@ -154,24 +177,38 @@ fn programs(times: &report::Times) {
     table.print(1);
 }
 
+/// Where the time of the report program goes, in milliseconds and as shares, of the plain one and of that for v3.
 fn shares(times: &report::Times) {
-    let whole = times.programs[IRUMBOLAI].expect("the report was measured");
-    let guards = times.guards.expect("the guards were measured");
-    let scans = times.scans.expect("the scans were measured");
-    let cat = times.cat.expect("cat was measured");
-    let mut table = Table::new(&["where the report's time goes", "ms", "share"]);
-    for (name, time) in [
-        ("guards of its blocks, alone in this process", guards),
-        ("the rest of its scans, in this process", scans - guards),
+    let mut table = Table::new(&[
+        "where the report's time goes",
+        "ms",
+        "share",
+        "v3, ms",
+        "v3, share",
+    ]);
+    let whole = [PLAIN, V3].map(|who| times.programs[who]);
+    let less = |more: [Option<f64>; 2], part: [Option<f64>; 2]| {
+        [0, 1].map(|who| Some(more[who]? - part[who]?))
+    };
+    for (name, parts) in [
+        ("guards of its blocks, alone in this process", times.guards),
+        (
+            "the rest of its scans, in this process",
+            less(times.scans, times.guards),
+        ),
         (
             "what is left: pipe, start of the program, lines",
-            whole - scans,
+            less(whole, times.scans),
         ),
         ("the report", whole),
-        ("beside it: `cat` of the same image", cat),
+        ("beside it: `cat` of the same image", [times.cat; 2]),
     ] {
-        let share = format!("{:.1} %", 100.0 * time / whole);
-        table.row(vec![name.to_string(), number(time / 1e6), share]);
+        let cells = [0, 1].into_iter().flat_map(|who| {
+            let share = rate(whole[who], parts[who]).map(|share| format!("{:.1} %", 100.0 * share));
+            let time = parts[who].map(|time| time / 1e6);
+            [known(time), share.unwrap_or_else(|| String::from("-"))]
+        });
+        table.row([name.to_string()].into_iter().chain(cells).collect());
     }
     table.print(1);
 }

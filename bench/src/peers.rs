@@ -1,4 +1,4 @@
-//! The same jobs in ordinary Rust, over two ways to make guards: a loop over bits, and ISA-L.
+//! The same jobs in ordinary Rust, over two ways to make guards: a loop over bits, and ISA-L, the latter with two ways to combine.
 
 use crate::stripes::{BLOCK, DATA, MEMBERS, VOLUME, Verdict, blocks};
 use std::array;
@@ -6,6 +6,9 @@ use std::array;
 pub trait Peer {
     /// The register of the guard after more bytes.
     fn go_on(register: u16, bytes: &[u8]) -> u16;
+
+    /// Combines bytes into others.
+    fn add(sum: &mut [u8], bytes: &[u8]);
 
     /// What the data of all members but `skip` combine to.
     fn combined(bytes: &[u8], skip: usize) -> [u8; DATA];
@@ -31,6 +34,10 @@ impl Peer for Ordinary {
         register
     }
 
+    fn add(sum: &mut [u8], bytes: &[u8]) {
+        xor_into(sum, bytes);
+    }
+
     #[inline(never)]
     fn combined(bytes: &[u8], skip: usize) -> [u8; DATA] {
         let mut sum = [0; DATA];
@@ -47,25 +54,59 @@ impl Peer for Ordinary {
 /// keeps sixty-four bytes in registers while the members go by.
 pub struct Isal;
 
-const ROW: usize = 64;
-
 impl Peer for Isal {
     #[inline(always)]
     fn go_on(register: u16, bytes: &[u8]) -> u16 {
         isal::guard(register, bytes)
     }
 
-    fn combined(bytes: &[u8], skip: usize) -> [u8; DATA] {
-        let mut sum = [0; DATA];
-        for (place, part) in sum.chunks_exact_mut(ROW).enumerate() {
-            part.copy_from_slice(&row(bytes, skip, place * ROW));
-        }
-        sum
+    fn add(sum: &mut [u8], bytes: &[u8]) {
+        xor_into(sum, bytes);
     }
+
+    fn combined(bytes: &[u8], skip: usize) -> [u8; DATA] {
+        by_rows(|at| row(bytes, skip, at))
+    }
+}
+
+/// The same, its exclusive-or compiled for processors with AVX2. It is called only where the processor has it.
+pub struct IsalV3;
+
+impl Peer for IsalV3 {
+    #[inline(always)]
+    fn go_on(register: u16, bytes: &[u8]) -> u16 {
+        isal::guard(register, bytes)
+    }
+
+    fn add(sum: &mut [u8], bytes: &[u8]) {
+        // SAFETY: the processor has AVX2.
+        unsafe { v3::xor_into(sum, bytes) }
+    }
+
+    fn combined(bytes: &[u8], skip: usize) -> [u8; DATA] {
+        // SAFETY: the processor has AVX2.
+        by_rows(|at| unsafe { v3::row(bytes, skip, at) })
+    }
+}
+
+const ROW: usize = 64;
+
+#[inline(always)]
+fn by_rows(row: impl Fn(usize) -> [u8; ROW]) -> [u8; DATA] {
+    let mut sum = [0; DATA];
+    for (place, part) in sum.chunks_exact_mut(ROW).enumerate() {
+        part.copy_from_slice(&row(place * ROW));
+    }
+    sum
 }
 
 #[inline(never)]
 fn row(bytes: &[u8], skip: usize, at: usize) -> [u8; ROW] {
+    row_inline(bytes, skip, at)
+}
+
+#[inline(always)]
+fn row_inline(bytes: &[u8], skip: usize, at: usize) -> [u8; ROW] {
     let mut row = [0; ROW];
     for (member, block) in blocks(bytes).enumerate() {
         if member != skip {
@@ -73,6 +114,22 @@ fn row(bytes: &[u8], skip: usize, at: usize) -> [u8; ROW] {
         }
     }
     row
+}
+
+/// Compiled for processors with AVX2.
+mod v3 {
+    use super::ROW;
+
+    #[inline(never)]
+    #[target_feature(enable = "avx2")]
+    pub fn row(bytes: &[u8], skip: usize, at: usize) -> [u8; ROW] {
+        super::row_inline(bytes, skip, at)
+    }
+
+    #[target_feature(enable = "avx2")]
+    pub fn xor_into(sum: &mut [u8], bytes: &[u8]) {
+        super::xor_into(sum, bytes);
+    }
 }
 
 pub mod isal {
@@ -94,6 +151,7 @@ pub mod isal {
     }
 }
 
+#[inline(always)]
 fn xor_into(sum: &mut [u8], bytes: &[u8]) {
     for (place, byte) in sum.iter_mut().zip(bytes) {
         *place ^= byte;
@@ -168,7 +226,7 @@ impl Scan {
         let at = self.at[member];
         let (data, tag) = bytes.split_at(bytes.len().min(DATA.saturating_sub(at)));
         self.register[member] = P::go_on(self.register[member], data);
-        xor_into(&mut work[at.min(DATA)..], data);
+        P::add(&mut work[at.min(DATA)..], data);
         let from = (at + data.len()).saturating_sub(DATA);
         self.tag[member][from..from + tag.len()].copy_from_slice(tag);
         self.at[member] = at + bytes.len();

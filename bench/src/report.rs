@@ -1,9 +1,11 @@
 //! The report program on an image in memory that comes through a pipe, beside its peers and `cat`.
 
-use crate::library;
-use crate::peers::{self, Isal, Ordinary};
+use crate::library::{self, Archive, Plain};
+use crate::peers::{self, Isal, IsalV3, Ordinary};
 use crate::random::{self, Random};
-use crate::rows::{CONTESTANTS, IRUMBOLAI, ISAL, MEMCPY, ORDINARY, Room, copy_stripe, guards};
+use crate::rows::{
+    CONTESTANTS, ISAL, ISAL_V3, MEMCPY, ORDINARY, PLAIN, Room, V3, copy_stripe, guards,
+};
 use crate::stripes::{MEMBERS, STRIPE, VOLUME, Verdict, blocks, damage, seal};
 use crate::timing::{is_here, keep, timed};
 use std::env;
@@ -30,42 +32,43 @@ const HEADER: usize = 9;
 /// The buffers of the peers are as long as those of the proved program.
 const BUFFER: usize = 65536;
 
-/// The best times, in nanoseconds for the whole image.
+/// Who has a report program.
+const PROGRAMS: [usize; 5] = [PLAIN, V3, ORDINARY, ISAL, ISAL_V3];
+
+/// The best times, in nanoseconds for the whole image; guards and scans of either archive.
 pub struct Times {
     pub bytes: usize,
     pub programs: [Option<f64>; CONTESTANTS],
     pub cat: Option<f64>,
-    pub guards: Option<f64>,
-    pub scans: Option<f64>,
+    pub guards: [Option<f64>; 2],
+    pub scans: [Option<f64>; 2],
 }
 
 /// The report programs agree on an image with damaged stripes.
-pub fn compare(program: &Path) {
+pub fn compare(programs: [&Path; 2]) {
     let mut random = Random::new(random::seed());
     let mut image = image(COMPARED, &mut random);
     for (number, bytes) in image[HEADER..].chunks_exact_mut(STRIPE).enumerate() {
         damage(number as u64, bytes, &mut random);
     }
-    agree(program, &image);
+    agree(programs, &image);
 }
 
-pub fn measure(program: &Path) -> Times {
+pub fn measure(programs: [&Path; 2]) -> Times {
     let image = image(IMAGE, &mut Random::new(random::seed()));
-    agree(program, &image);
+    agree(programs, &image);
     let mut times = Times {
         bytes: image.len(),
         programs: [None; CONTESTANTS],
         cat: None,
-        guards: None,
-        scans: None,
+        guards: [None; 2],
+        scans: [None; 2],
     };
     let mut room = Room::new();
     for _ in 0..ROUNDS {
-        for who in [IRUMBOLAI, ORDINARY, ISAL] {
-            if is_here(who) {
-                let time = timed(|| run(&mut command(who, program), &image, Stdio::null()));
-                keep(&mut times.programs[who], time);
-            }
+        for who in PROGRAMS.into_iter().filter(|who| is_here(*who)) {
+            let time = timed(|| run(&mut command(who, programs), &image, Stdio::null()));
+            keep(&mut times.programs[who], time);
         }
         let cat = timed(|| run(&mut Command::new("cat"), &image, Stdio::null()));
         keep(&mut times.cat, cat);
@@ -76,20 +79,30 @@ pub fn measure(program: &Path) -> Times {
             }
         });
         keep(&mut times.programs[MEMCPY], memcpy);
-        let guards = timed(|| {
-            for bytes in stripes() {
-                black_box(guards(library::guard, bytes));
-            }
-        });
-        keep(&mut times.guards, guards);
-        let scans = timed(|| {
-            for (number, bytes) in stripes().enumerate() {
-                black_box(library::scan(number as u64, blocks(bytes), &mut room.work));
-            }
-        });
-        keep(&mut times.scans, scans);
+        inside::<Plain>(&image, &mut room, &mut times, PLAIN);
+        if is_here(V3) {
+            inside::<library::V3>(&image, &mut room, &mut times, V3);
+        }
     }
     times
+}
+
+/// Times the guards and the scans of an image by one archive in this process.
+fn inside<A: Archive>(image: &[u8], room: &mut Room, times: &mut Times, who: usize) {
+    let stripes = || image[HEADER..].chunks_exact(STRIPE);
+    let guards = timed(|| {
+        for bytes in stripes() {
+            black_box(guards(library::guard::<A>, bytes));
+        }
+    });
+    keep(&mut times.guards[who], guards);
+    let scans = timed(|| {
+        for (number, bytes) in stripes().enumerate() {
+            let work = &mut room.work;
+            black_box(library::scan::<A>(number as u64, blocks(bytes), work));
+        }
+    });
+    keep(&mut times.scans[who], scans);
 }
 
 fn image(stripes: usize, random: &mut Random) -> Vec<u8> {
@@ -100,12 +113,15 @@ fn image(stripes: usize, random: &mut Random) -> Vec<u8> {
     image
 }
 
-fn command(who: usize, program: &Path) -> Command {
-    if who == IRUMBOLAI {
-        return Command::new(program);
-    }
+fn command(who: usize, programs: [&Path; 2]) -> Command {
+    let peer = match who {
+        PLAIN | V3 => return Command::new(programs[who]),
+        ISAL => "isal",
+        ISAL_V3 => "isal-v3",
+        _ => "ordinary",
+    };
     let mut command = Command::new(env::current_exe().expect("this program has a path"));
-    command.args([PEER, if who == ISAL { "isal" } else { "ordinary" }]);
+    command.args([PEER, peer]);
     command
 }
 
@@ -126,15 +142,13 @@ fn run(command: &mut Command, image: &[u8], output: Stdio) -> Vec<u8> {
 }
 
 /// The programs write the report that the library's scrub gives.
-fn agree(program: &Path, image: &[u8]) {
+fn agree(programs: [&Path; 2], image: &[u8]) {
     let mut due = Vec::new();
-    report(image, &mut due, library::scrub).expect("memory takes the report");
-    for who in [IRUMBOLAI, ORDINARY, ISAL] {
-        if is_here(who) {
-            let mut command = command(who, program);
-            let found = run(&mut command, image, Stdio::piped());
-            assert!(found == due, "{command:?}: another report is due");
-        }
+    report(image, &mut due, library::scrub::<Plain>).expect("memory takes the report");
+    for who in PROGRAMS.into_iter().filter(|who| is_here(*who)) {
+        let mut command = command(who, programs);
+        let found = run(&mut command, image, Stdio::piped());
+        assert!(found == due, "{command:?}: another report is due");
     }
 }
 
@@ -142,6 +156,7 @@ fn agree(program: &Path, image: &[u8]) {
 pub fn peer(name: &str) -> io::Result<()> {
     let scrub = match name {
         "isal" => peers::scrub::<Isal>,
+        "isal-v3" => peers::scrub::<IsalV3>,
         _ => peers::scrub::<Ordinary>,
     };
     let input = BufReader::with_capacity(BUFFER, io::stdin());

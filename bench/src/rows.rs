@@ -1,7 +1,7 @@
 //! What is measured: each row is one job, done by the library and by its peers. A new row is a new entry of ROWS.
 
-use crate::library;
-use crate::peers::{self, Isal, Ordinary};
+use crate::library::{self, Archive};
+use crate::peers::{self, Isal, IsalV3, Ordinary};
 use crate::stripes::{BLOCK, DATA, MEMBERS, STRIPE, blocks};
 use std::hint::black_box;
 
@@ -23,12 +23,14 @@ impl Room {
 /// Does a job on the stripe of a number, and gives what it finds as one number.
 pub type Job = fn(u64, &mut [u8], &mut Room) -> u64;
 
-/// Who does a job, in the order of the columns.
-pub const IRUMBOLAI: usize = 0;
-pub const ORDINARY: usize = 1;
-pub const ISAL: usize = 2;
-pub const MEMCPY: usize = 3;
-pub const CONTESTANTS: usize = 4;
+/// Who does a job, in the order of the columns: the library's two archives, then the peers.
+pub const PLAIN: usize = 0;
+pub const V3: usize = 1;
+pub const ORDINARY: usize = 2;
+pub const ISAL: usize = 3;
+pub const ISAL_V3: usize = 4;
+pub const MEMCPY: usize = 5;
+pub const CONTESTANTS: usize = 6;
 
 /// Where the bytes of a row lie before its job.
 #[derive(Clone, Copy, Debug, PartialEq)]
@@ -58,9 +60,11 @@ pub const ROWS: &[Row] = &[
         bytes: DATA,
         sources: &[Source::Cache],
         jobs: [
-            |_, bytes, _| alone(library::guard, bytes),
+            |_, bytes, _| alone(library::guard::<library::Plain>, bytes),
+            |_, bytes, _| alone(library::guard::<library::V3>, bytes),
             |_, bytes, _| alone(peers::guard::<Ordinary>, bytes),
             |_, bytes, _| alone(peers::guard::<Isal>, bytes),
+            |_, bytes, _| alone(peers::guard::<IsalV3>, bytes),
             |_, bytes, room| copy_one(bytes, room),
         ],
     },
@@ -71,9 +75,11 @@ pub const ROWS: &[Row] = &[
         bytes: DATA,
         sources: &[Source::Cache, Source::Memory],
         jobs: [
-            |_, bytes, _| together(library::guards(bytes)),
+            |_, bytes, _| together(library::guards::<library::Plain>(bytes)),
+            |_, bytes, _| together(library::guards::<library::V3>(bytes)),
             |_, bytes, _| guards(peers::guard::<Ordinary>, bytes),
             |_, bytes, _| guards(peers::guard::<Isal>, bytes),
+            |_, bytes, _| guards(peers::guard::<IsalV3>, bytes),
             |_, bytes, room| copy_blocks(bytes, room),
         ],
     },
@@ -84,9 +90,11 @@ pub const ROWS: &[Row] = &[
         bytes: STRIPE,
         sources: &[Source::Cache, Source::Memory],
         jobs: [
-            |stripe, bytes, _| library::scrub(stripe, bytes).number(),
+            |stripe, bytes, _| library::scrub::<library::Plain>(stripe, bytes).number(),
+            |stripe, bytes, _| library::scrub::<library::V3>(stripe, bytes).number(),
             |stripe, bytes, _| peers::scrub::<Ordinary>(stripe, bytes).number(),
             |stripe, bytes, _| peers::scrub::<Isal>(stripe, bytes).number(),
+            |stripe, bytes, _| peers::scrub::<IsalV3>(stripe, bytes).number(),
             |_, bytes, room| copy_stripe(bytes, room),
         ],
     },
@@ -97,9 +105,11 @@ pub const ROWS: &[Row] = &[
         bytes: STRIPE,
         sources: &[Source::Cache, Source::Memory],
         jobs: [
-            |stripe, bytes, _| u64::from(library::rebuild(stripe, LOST, bytes) == 0),
+            |stripe, bytes, _| rebuilt::<library::Plain>(stripe, bytes),
+            |stripe, bytes, _| rebuilt::<library::V3>(stripe, bytes),
             |stripe, bytes, _| u64::from(peers::rebuild::<Ordinary>(stripe, LOST, bytes)),
             |stripe, bytes, _| u64::from(peers::rebuild::<Isal>(stripe, LOST, bytes)),
+            |stripe, bytes, _| u64::from(peers::rebuild::<IsalV3>(stripe, LOST, bytes)),
             |_, bytes, room| copy_stripe(bytes, room),
         ],
     },
@@ -110,17 +120,29 @@ pub const ROWS: &[Row] = &[
         bytes: STRIPE,
         sources: &[Source::Cache, Source::Memory],
         jobs: [
-            |stripe, bytes, room| library::scan(stripe, blocks(bytes), &mut room.work).number(),
+            |stripe, bytes, room| {
+                library::scan::<library::Plain>(stripe, blocks(bytes), &mut room.work).number()
+            },
+            |stripe, bytes, room| {
+                library::scan::<library::V3>(stripe, blocks(bytes), &mut room.work).number()
+            },
             |stripe, bytes, room| {
                 peers::scan::<Ordinary>(stripe, blocks(bytes), &mut room.work).number()
             },
             |stripe, bytes, room| {
                 peers::scan::<Isal>(stripe, blocks(bytes), &mut room.work).number()
             },
+            |stripe, bytes, room| {
+                peers::scan::<IsalV3>(stripe, blocks(bytes), &mut room.work).number()
+            },
             |_, bytes, room| copy_stripe(bytes, room),
         ],
     },
 ];
+
+fn rebuilt<A: Archive>(stripe: u64, bytes: &mut [u8]) -> u64 {
+    u64::from(library::rebuild::<A>(stripe, LOST, bytes) == 0)
+}
 
 /// Guards of the first block, each begun when the one before is known: where it starts depends on it.
 fn alone(guard: impl Fn(&[u8]) -> u16, bytes: &[u8]) -> u64 {

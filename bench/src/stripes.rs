@@ -1,6 +1,6 @@
 //! The array that is measured, and stripes of random data.
 
-use crate::library;
+use crate::library::{self, Plain};
 use crate::random::Random;
 
 pub const DATA: usize = 512;
@@ -38,7 +38,7 @@ pub fn seal(bytes: &mut [u8], random: &mut Random) {
     let mut data = [0; (MEMBERS - 1) * DATA];
     for (stripe, bytes) in bytes.chunks_exact_mut(STRIPE).enumerate() {
         random.fill(&mut data);
-        assert_eq!(library::seal(stripe as u64, &data, bytes), 0);
+        assert_eq!(library::seal::<Plain>(stripe as u64, &data, bytes), 0);
     }
 }
 
@@ -57,9 +57,9 @@ pub fn damage(stripe: u64, bytes: &mut [u8], random: &mut Random) {
         3 => {
             bytes[member * BLOCK + random.below(DATA)] ^= 1 << random.below(8);
             let data = member * BLOCK..member * BLOCK + DATA;
-            let guard = library::guard(&bytes[data.clone()]);
+            let guard = library::guard::<Plain>(&bytes[data.clone()]);
             bytes[data.end..data.end + 2].copy_from_slice(&guard.to_be_bytes());
-            let torn = library::scrub(stripe, bytes);
+            let torn = library::scrub::<Plain>(stripe, bytes);
             assert!(matches!(torn, Verdict::Torn { .. }), "{torn:?}");
         }
         _ => random.fill(bytes),

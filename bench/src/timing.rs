@@ -1,8 +1,9 @@
 //! The library and its peers take turns, and the best time of each counts.
 
+use crate::machine;
 use crate::peers::isal;
 use crate::random::{self, Random};
-use crate::rows::{CONTESTANTS, IRUMBOLAI, ISAL, MEMCPY, Room, Row, Source};
+use crate::rows::{CONTESTANTS, ISAL, ISAL_V3, MEMCPY, PLAIN, Room, Row, Source, V3};
 use crate::stripes::{MEMBERS, STRIPE, damage, seal};
 use std::hint::black_box;
 use std::time::Instant;
@@ -95,8 +96,14 @@ impl Ground {
     }
 }
 
+/// Whether a contestant can take part: ISA-L is installed, the processor has what the code was compiled for.
 pub fn is_here(who: usize) -> bool {
-    who != ISAL || isal::VERSION.is_some()
+    match who {
+        V3 => machine::is_v3(),
+        ISAL => isal::VERSION.is_some(),
+        ISAL_V3 => isal::VERSION.is_some() && machine::is_v3(),
+        _ => true,
+    }
 }
 
 /// How long some work takes, in nanoseconds. Every time that this program tells is taken here.
@@ -131,7 +138,7 @@ pub fn compare(row: &Row) {
         let mut before = stripes.stripe(number).to_vec();
         damage(number as u64, &mut before, &mut random);
         let mut due = before.clone();
-        let answer = row.jobs[IRUMBOLAI](number as u64, &mut due, &mut room);
+        let answer = row.jobs[PLAIN](number as u64, &mut due, &mut room);
         for (who, job) in row.jobs.iter().enumerate().filter(|(who, _)| is_here(*who)) {
             let mut after = before.clone();
             let found = job(number as u64, &mut after, &mut room);
