@@ -1,8 +1,9 @@
-// The end of a division: what a word leaves, four bits at a time by ten tables of sixteen entries. The tables are lent, so that a caller makes
-// them once; what is promised holds of any.
+// The end of a division: what a word leaves. Once, four bits at a time by ten tables of sixteen entries: they are lent, so that a caller makes
+// them once, and what is promised holds of any. Once without a table, which is more to compute but goes for many words side by side.
 ghost use mathlib.Core.Path.{_≡_};
-ghost use Rattle.words.specs.Words.{act};
+ghost use Rattle.words.specs.Words.{rest, act};
 ghost use Rattle.nibbles.specs.Nibbles.{nearer, nibbles, looked};
+ghost use Rattle.nibbles.specs.Quotients.{moving, quotient, multiple};
 
 const NIBBLES: [u16; 160] = [
     0x0000,
@@ -201,4 +202,47 @@ pub fn end(tables: &[u16; 160], v: u64) -> u16
     ensures { λ r. ⌜ r ≡ looked 10 (now (tables .entry)) (act nearer v) ⌝ }
 {
     look(tables, near(v))
+}
+
+// A word moved on by 16 bits.
+fn moved(v: u64) -> u64
+    ensures { λ r. ⌜ r ≡ act moving v ⌝ }
+{
+    let high = v >> 48;
+    v << 16 ^ high << 25 ^ high << 32 ^ high << 35 ^ high << 40
+}
+
+// How often the generator goes into 40 bits: the lowest 16 bits of it.
+fn times(v: u64) -> u64
+    ensures { λ r. ⌜ r ≡ act quotient v ⌝ }
+{
+    let above = v >> 16;
+    let once = above ^ above << 1;
+    let all = once ^ once << 5;
+    (all >> 24
+        ^ all >> 22
+        ^ all >> 21
+        ^ all >> 19
+        ^ all >> 18
+        ^ all >> 14
+        ^ all >> 10
+        ^ all >> 8
+        ^ all >> 6)
+        % 65536
+}
+
+// So many times the generator, in the lowest 16 bits.
+fn generators(n: u64) -> u64
+    ensures { λ r. ⌜ r ≡ act multiple n ⌝ }
+{
+    let some = n ^ n << 7;
+    some ^ some << 1 ^ some << 2 ^ some << 4 ^ some << 5 ^ some << 12 ^ some << 15
+}
+
+// What a word leaves, without a table.
+pub fn left(v: u64) -> u16
+    ensures { λ r. ⌜ r ≡ rest v ⌝ }
+{
+    let z = near(moved(v));
+    ((z ^ generators(times(z))) % 65536) as u16
 }

@@ -84,6 +84,13 @@ additive f add zero-at (suc n) at x h =
     one : 1 * 2 ^ n ≡ 2 ^ n
     one = omega arith
 
+-- two of them added, and one after the other
+pub sum-through : (f g : ℕ → ℕ) → Through f → Through g → Through (λ (x : ℕ). bitXor (f x) (g x))
+sum-through f g hf hg x y = ap₂ bitXor (hf x y) (hg x y) ∙ xor-four (f x) (f y) (g x) (g y)
+
+pub next-through : (f g : ℕ → ℕ) → Through f → Through g → Through (λ (x : ℕ). g (f x))
+next-through f g hf hg x y = ap g (hf x y) ∙ hg (f x) (f y)
+
 -- two such maps that agree on the n lowest single bits agree on every number below 2 ^ n
 module _ (f g : ℕ → ℕ) where
   abbrev pub apart : ℕ → ℕ
@@ -92,11 +99,8 @@ module _ (f g : ℕ → ℕ) where
   pub agree : Through f → Through g → (n : ℕ) → entries apart 0 n ≡ zeros n → (v : ℕ) → v < 2 ^ n → f v ≡ g v
   agree hf hg n none v h =
       xor-eq (f v) (g v)
-      (additive (λ (x : ℕ). bitXor (f x) (g x)) both (both 0 0 ∙ xor-self (bitXor (f 0) (g 0))) n
+      (additive (λ (x : ℕ). bitXor (f x) (g x)) (sum-through f g hf hg) (sum-through f g hf hg 0 0 ∙ xor-self (bitXor (f 0) (g 0))) n
       (λ k l. sym (entry apart n k l) ∙ ap (λ (q : List ℕ). getD q k 0) none ∙ zeros-at n k) v h)
-    where
-      both : Through (λ (x : ℕ). bitXor (f x) (g x))
-      both x y = ap₂ bitXor (hf x y) (hg x y) ∙ xor-four (f x) (f y) (g x) (g y)
 
 -- a word through a map
 pub rest-act : (m : Map) → Through (λ (v : ℕ). rest (act m v))

@@ -7,7 +7,6 @@ ghost use Rattle.crc.specs.Blocks.{guardsOf};
 ghost use Rattle.words.specs.Words.{rest};
 ghost use Rattle.words.specs.Steps.{quad};
 ghost use Rattle.fold.specs.Many.{Whole, Known};
-use crate::lanes::calls::end;
 use crate::lanes::calls::guard;
 use crate::lanes::columns;
 use xor::least;
@@ -57,16 +56,14 @@ fn joins(words: [u64; 64]) -> [u64; 16]
     out
 }
 
-// The guards that the first words leave, as many as `count` says.
-fn ends(words: [u64; 16], count: usize) -> [u16; 16]
-    requires { ⌜ count ≤ 16 ⌝ }
-    ensures { λ r. ⌜ ((l : ℕ) → l < count → getD r l 0 ≡ rest (getD words l 0)) ⌝ }
+// The guards that sixteen words leave. Side by side they need no table.
+fn ends(words: [u64; 16]) -> [u16; 16]
+    ensures { λ r. ⌜ ((l : ℕ) → l < 16 → getD r l 0 ≡ rest (getD words l 0)) ⌝ }
 {
-    let tables = nibbles::nibble_table();
     let mut out = [0u16; 16];
     let mut m: usize = 0;
-    while m < count {
-        out[m] = end(&tables, words[m]);
+    while m < 16 {
+        out[m] = nibbles::left(words[m]);
         m += 1;
     }
     out
@@ -79,7 +76,7 @@ fn of_wholes(bytes: &[u8], stride: usize, count: usize) -> [u16; 16]
 {
     let mut words = [0u64; 64];
     columns(0, bytes, stride, count, &mut words);
-    ends(joins(words), count)
+    ends(joins(words))
 }
 
 // The guard of a run that is not whole. Many have no bytes.

@@ -11,25 +11,22 @@ use Rattle.fold.proofs.lanes.calls.many.ends.Statement.{statement}
 use Rattle.fold.proofs.lanes.calls.many.ends.Tie as tie
 
 abbrev Inv-loop : tie.InvT-loop
-Inv-loop count words tables out₀ m₀ out m = (m ≤ count) × (length out ≡ 16) × ((l : ℕ) → l < m → getD out l 0 ≡ rest (getD words l 0))
+Inv-loop words out₀ m₀ out m = (m ≤ 16) × (length out ≡ 16) × ((l : ℕ) → l < m → getD out l 0 ≡ rest (getD words l 0))
 
 abbrev μ-loop : tie.MeasureT-loop
-μ-loop count words tables out₀ m₀ out m = count - m
-
-nibble-table-requires : tie.Need-nibble-table-requires Inv-loop μ-loop
-nibble-table-requires c κs = search needs
+μ-loop words out₀ m₀ out m = 16 - m
 
 loop-holds : tie.Need-loop-holds Inv-loop μ-loop
 loop-holds c = (omega arith, search needs, λ l h. absurd (omega arith))
 
-mul-end : tie.Need-mul-end Inv-loop μ-loop
-mul-end c = search needs
+mul-left : tie.Need-mul-left Inv-loop μ-loop
+mul-left c = search needs
 
-array-read-end : tie.Need-array-read-end Inv-loop μ-loop
-array-read-end c = search needs
+array-read-left : tie.Need-array-read-left Inv-loop μ-loop
+array-read-left c = search needs
 
-end-requires : tie.Need-end-requires Inv-loop μ-loop
-end-requires c κs = search needs
+left-requires : tie.Need-left-requires Inv-loop μ-loop
+left-requires c κs = search needs
 
 mul-out : tie.Need-mul-out Inv-loop μ-loop
 mul-out c = search needs
@@ -45,12 +42,11 @@ loop-less c = search needs
 
 loop-again : tie.Need-loop-again Inv-loop μ-loop
 loop-again c =
-    let l = c .before .before .before in
-    let at = l .loop in
-    let w = l .before .before .args .t1 in (
+    let at = c .before .before .loop in
+    let w = c .before .before .before .args .t1 in (
       omega arith,
-      length-set (at .out) (at .m) (c .end .result) ∙ at .inv .1,
-      set-more (λ (l x : ℕ). x ≡ rest (getD w l 0)) (at .out) (at .m) (c .end .result) (omega arith) (at .inv .2) (c .end .ensures),
+      length-set (at .out) (at .m) (c .left .result) ∙ at .inv .1,
+      set-more (λ (l x : ℕ). x ≡ rest (getD w l 0)) (at .out) (at .m) (c .left .result) (omega arith) (at .inv .2) (c .left .ensures),
     )
 
 returns : tie.Need-returns Inv-loop μ-loop
@@ -64,11 +60,10 @@ ends-spec =
     (tie.spec
     Inv-loop
     μ-loop
-    nibble-table-requires
     loop-holds
-    mul-end
-    array-read-end
-    end-requires
+    mul-left
+    array-read-left
+    left-requires
     mul-out
     array-write-out
     add-m

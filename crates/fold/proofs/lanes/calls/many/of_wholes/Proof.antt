@@ -24,7 +24,7 @@ unfolding guard
 returns c =
     let d = c .before .before .before in
     let few = d .before .before .before .pre .0 in
-    λ l h. c .ends .ensures l h ∙ c .before .joins .ensures l (omega arith) ∙ d .columns .ensures .1 l h
+    λ l h. c .ends .ensures l (omega arith) ∙ c .before .joins .ensures l (omega arith) ∙ d .columns .ensures .1 l h
 
 pub of-wholes-spec : {M : Type 1} → statement M
 of-wholes-spec =
