@@ -10,17 +10,17 @@ use Rattle.fold.proofs.Folding.{addAt, folds, Within, folded, single}
 
 -- each word in turn, and how many it passes over
 order : List ℕ
-order = 5 ∷ 5 ∷ 5 ∷ 0 ∷ 1 ∷ 0 ∷ 1 ∷ 0 ∷ []
+order = 5 ∷ 5 ∷ 5 ∷ 3 ∷ 3 ∷ 0 ∷ 1 ∷ 0 ∷ []
 
 within : Within order 9
 unfolding order
 within = (lit< tt, (lit< tt, (lit< tt, (lit< tt, (lit< tt, (lit< tt, (lit< tt, (lit< tt, tt))))))))
 
 pub ordered : (a b c d e f g h i : ℕ)
-    → after 256 (after 1536 b h) (after 512 (after 256 f (after 512 (after 256 d e) (after 1536 a g))) (after 1536 c i))
+    → after 256 (after 1024 d (after 1536 b h)) (after 512 (after 256 f (after 1536 a g)) (after 1024 e (after 1536 c i)))
     ≡ column (a ∷ b ∷ c ∷ d ∷ e ∷ f ∷ g ∷ h ∷ i ∷ [])
 unfolding order folds addAt
 ordered a b c d e f g h i =
     sym
     (folded order (a ∷ b ∷ c ∷ d ∷ e ∷ f ∷ g ∷ h ∷ i ∷ []) within
-    ∙ single (after 256 (after 1536 b h) (after 512 (after 256 f (after 512 (after 256 d e) (after 1536 a g))) (after 1536 c i))))
+    ∙ single (after 256 (after 1024 d (after 1536 b h)) (after 512 (after 256 f (after 1536 a g)) (after 1024 e (after 1536 c i)))))

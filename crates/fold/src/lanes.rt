@@ -16,6 +16,7 @@ use crate::added;
 use crate::met;
 use crate::two;
 use crate::word;
+use words::past_four_rows;
 use words::past_row;
 use words::past_six_rows;
 use words::past_two_rows;
@@ -51,8 +52,8 @@ fn lasts(b: &[u8]) -> [u64; 4]
     [first, second, third, 0]
 }
 
-// What the nine words of a lane come to, a row apart: the first three go six rows on, the others one or two, none far down a chain. They are
-// read in the order in which memory gives them soonest.
+// What the nine words of a lane come to, a row apart: the first three go six rows on, the next two four, the others one or two, so that none
+// goes on more than twice. They are read in the order in which memory gives them soonest.
 fn lane(b: &[u8], p: usize, first: u64, last: u64) -> u64
     requires { ⌜ p + 488 ≤ length (now b) ⌝ }
     ensures { λ r. ⌜ rest r ≡ column (nine (seen first) (seen last) (now (b .entry)) p) ⌝ }
@@ -69,9 +70,10 @@ fn lane(b: &[u8], p: usize, first: u64, last: u64) -> u64
     let from_front = past_six_rows(front, seventh);
     let from_second = past_six_rows(second, eighth);
     let from_third = past_six_rows(third, ninth);
-    let to_fifth = past_row(fourth, fifth);
-    let to_seventh = past_row(sixth, past_two_rows(to_fifth, from_front));
-    past_row(from_second, past_two_rows(to_seventh, from_third))
+    let from_fourth = past_four_rows(fourth, from_second);
+    let from_fifth = past_four_rows(fifth, from_third);
+    let to_seventh = past_row(sixth, from_front);
+    past_row(from_fourth, past_two_rows(to_seventh, from_fifth))
 }
 
 // The four lanes of a block.

@@ -6,7 +6,7 @@ use lib.Dec.{lit≤}
 use lib.Bits.{bitXor}
 use Rattle.crc.specs.Crc.{feed, bitStep}
 use Rattle.words.specs.Words.{rest, on, after, act}
-use Rattle.words.specs.Steps.{byWord, byTwoWords, byRow, byTwoRows, bySixRows}
+use Rattle.words.specs.Steps.{byWord, byTwoWords, byRow, byTwoRows, byFourRows, bySixRows}
 use Rattle.words.proofs.Sparse.{sparse}
 
 pub word-on : (v w : ℕ) → v < 2 ^ 64 → rest (bitXor (act byWord v) w) ≡ after 64 (rest v) (rest w)
@@ -24,6 +24,10 @@ row-on = sparse byRow 34 256 (lit≤ tt) refl refl refl
 pub two-rows-on : (v w : ℕ) → v < 2 ^ 64 → rest (bitXor (act byTwoRows v) w) ≡ after 512 (rest v) (rest w)
 unfolding on feed bitStep
 two-rows-on = sparse byTwoRows 23 512 (lit≤ tt) refl refl refl
+
+pub four-rows-on : (v w : ℕ) → v < 2 ^ 64 → rest (bitXor (act byFourRows v) w) ≡ after 1024 (rest v) (rest w)
+unfolding on feed bitStep
+four-rows-on = sparse byFourRows 36 1024 (lit≤ tt) refl refl refl
 
 pub six-rows-on : (v w : ℕ) → v < 2 ^ 64 → rest (bitXor (act bySixRows v) w) ≡ after 1536 (rest v) (rest w)
 unfolding on feed bitStep

@@ -30,6 +30,10 @@ abbrev pub byTwoRows : Map
 byTwoRows =
     plus (plus (plus (plus (plus (plus (both 23) (up 16 (both 23))) (up 19 (both 23))) (up 14 (upper 23))) (up 23 (upper 23))) (up 8 (lower 23))) (up 24 (lower 23))
 
+-- by four rows, 1024 bits
+abbrev pub byFourRows : Map
+byFourRows = plus (plus (plus (plus (plus (plus (upper 36) (up 1 (upper 36))) (up 35 (upper 36))) (up 4 (lower 36))) (up 6 (lower 36))) (up 16 (lower 36))) (up 25 (lower 36))
+
 -- by six rows, 1536 bits
 abbrev pub bySixRows : Map
 bySixRows = plus (plus (plus (plus (up 3 (both 43)) (up 6 (both 43))) (upper 43)) (up 12 (lower 43))) (up 21 (lower 43))

@@ -43,6 +43,15 @@ pub fn past_two_rows(v: u64, added: u64) -> u64
     both ^ both << 16 ^ both << 19 ^ high << 14 ^ high << 23 ^ low << 8 ^ low << 24 ^ added
 }
 
+// A word moved on by 1024 bits, and another added.
+pub fn past_four_rows(v: u64, added: u64) -> u64
+    ensures { λ r. ⌜ rest r ≡ after 1024 (rest v) (rest added) ⌝ }
+{
+    let high = v >> 36;
+    let low = v % 0x1000000000;
+    high ^ high << 1 ^ high << 35 ^ low << 4 ^ low << 6 ^ low << 16 ^ low << 25 ^ added
+}
+
 // A word moved on by 1536 bits, and another added.
 pub fn past_six_rows(v: u64, added: u64) -> u64
     ensures { λ r. ⌜ rest r ≡ after 1536 (rest v) (rest added) ⌝ }

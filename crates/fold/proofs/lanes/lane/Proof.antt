@@ -93,6 +93,12 @@ past-six-rows-requires-2 c κs = search needs
 past-six-rows-requires-3 : tie.Need-past-six-rows-requires-3
 past-six-rows-requires-3 c κs = search needs
 
+past-four-rows-requires : tie.Need-past-four-rows-requires
+past-four-rows-requires c κs = search needs
+
+past-four-rows-requires-2 : tie.Need-past-four-rows-requires-2
+past-four-rows-requires-2 c κs = search needs
+
 past-row-requires : tie.Need-past-row-requires
 past-row-requires c κs = search needs
 
@@ -101,12 +107,6 @@ past-two-rows-requires c κs = search needs
 
 past-row-requires-2 : tie.Need-past-row-requires-2
 past-row-requires-2 c κs = search needs
-
-past-two-rows-requires-2 : tie.Need-past-two-rows-requires-2
-past-two-rows-requires-2 c κs = search needs
-
-past-row-requires-3 : tie.Need-past-row-requires-3
-past-row-requires-3 c κs = search needs
 
 returns : tie.Need-returns
 unfolding nine
@@ -120,19 +120,20 @@ returns c =
     let b = a .b .now in
     let p = a .p in
     let at : ℕ → ℕ → ℕ = (λ (i q : ℕ). four b (p + i) (p + q)) in
-    c .past-row3 .ensures
+    c .past-row2 .ensures
     ∙ ap₂ (λ (x y : ℕ). after 256 x y)
-    (joins .before .before .past-six-rows2 .ensures ∙ ap₂ (λ (x y : ℕ). after 1536 x y) (second .met .ensures) (second .before .added3 .ensures))
-    (c .before .past-two-rows2 .ensures
+    (joins .past-four-rows .ensures
+    ∙ ap₂ (λ (x y : ℕ). after 1024 x y) (words .before .before .before .met3 .ensures)
+    (joins .before .before .past-six-rows2 .ensures ∙ ap₂ (λ (x y : ℕ). after 1536 x y) (second .met .ensures) (second .before .added3 .ensures)))
+    (c .before .past-two-rows .ensures
     ∙ ap₂ (λ (x y : ℕ). after 512 x y)
-    (c .before .before .past-row2 .ensures
+    (c .before .before .past-row .ensures
     ∙ ap₂ (λ (x y : ℕ). after 256 x y) (words .before .met5 .ensures)
-    (c .before .before .before .past-two-rows .ensures
-    ∙ ap₂ (λ (x y : ℕ). after 512 x y)
-    (joins .past-row .ensures ∙ ap₂ (λ (x y : ℕ). after 256 x y) (words .before .before .before .met3 .ensures) (words .before .before .met4 .ensures))
-    (front .past-six-rows .ensures ∙ ap₂ (λ (x y : ℕ). after 1536 x y) (second .before .before .added2 .ensures) (words .met6 .ensures))))
+    (front .past-six-rows .ensures ∙ ap₂ (λ (x y : ℕ). after 1536 x y) (second .before .before .added2 .ensures) (words .met6 .ensures)))
+    (c .before .before .before .past-four-rows2 .ensures
+    ∙ ap₂ (λ (x y : ℕ). after 1024 x y) (words .before .before .met4 .ensures)
     (joins .before .past-six-rows3 .ensures
-    ∙ ap₂ (λ (x y : ℕ). after 1536 x y) (words .before .before .before .before .met2 .ensures) (ninth .added .ensures ∙ ap (bitXor (piece b (p + 480))) seen-none ∙ xor-zero-r (piece b (p + 480)))))
+    ∙ ap₂ (λ (x y : ℕ). after 1536 x y) (words .before .before .before .before .met2 .ensures) (ninth .added .ensures ∙ ap (bitXor (piece b (p + 480))) seen-none ∙ xor-zero-r (piece b (p + 480))))))
     ∙ ordered (bitXor (piece b (p + 224)) (seen (a .first))) (at 256 8) (at 288 40) (at 320 72) (at 352 104) (at 384 136) (at 416 168) (bitXor (piece b (p + 448)) (seen (a .last))) (piece b (p + 480))
 
 pub lane-spec : {M : Type 1} → statement M
@@ -166,9 +167,9 @@ lane-spec =
     past-six-rows-requires
     past-six-rows-requires-2
     past-six-rows-requires-3
+    past-four-rows-requires
+    past-four-rows-requires-2
     past-row-requires
     past-two-rows-requires
     past-row-requires-2
-    past-two-rows-requires-2
-    past-row-requires-3
     returns)
