@@ -76,7 +76,7 @@ fn lane(b: &[u8], p: usize, first: u64, last: u64) -> u64
     past_row(from_fourth, past_two_rows(to_seventh, from_fifth))
 }
 
-// The four lanes of a block.
+// The four lanes of a block among others.
 fn lanes(register: u16, b: &[u8]) -> [u64; 4]
     requires { ⌜ length (now b) ≡ 512 ⌝ }
     ensures { λ r. ⌜ Laned register (now (b .entry)) r 4 ⌝ }
@@ -87,6 +87,45 @@ fn lanes(register: u16, b: &[u8]) -> [u64; 4]
     let mut l: usize = 0;
     while l < 4 {
         out[l] = lane(b, 8 * l, first[l], last[l]);
+        l += 1;
+    }
+    out
+}
+
+// The same lane, of a block alone. Each of the two has one caller, of which the compiler makes it a part.
+fn lane_alone(b: &[u8], p: usize, first: u64, last: u64) -> u64
+    requires { ⌜ p + 488 ≤ length (now b) ⌝ }
+    ensures { λ r. ⌜ rest r ≡ column (nine (seen first) (seen last) (now (b .entry)) p) ⌝ }
+{
+    let ninth = added(b, p + 480, 0);
+    let front = added(b, p + 224, first);
+    let eighth = added(b, p + 448, last);
+    let second = met(b, p + 256, p + 8);
+    let third = met(b, p + 288, p + 40);
+    let fourth = met(b, p + 320, p + 72);
+    let fifth = met(b, p + 352, p + 104);
+    let sixth = met(b, p + 384, p + 136);
+    let seventh = met(b, p + 416, p + 168);
+    let from_front = past_six_rows(front, seventh);
+    let from_second = past_six_rows(second, eighth);
+    let from_third = past_six_rows(third, ninth);
+    let from_fourth = past_four_rows(fourth, from_second);
+    let from_fifth = past_four_rows(fifth, from_third);
+    let to_seventh = past_row(sixth, from_front);
+    past_row(from_fourth, past_two_rows(to_seventh, from_fifth))
+}
+
+// The four lanes of a block alone.
+fn lanes_alone(register: u16, b: &[u8]) -> [u64; 4]
+    requires { ⌜ length (now b) ≡ 512 ⌝ }
+    ensures { λ r. ⌜ Laned register (now (b .entry)) r 4 ⌝ }
+{
+    let mut out = [0u64; 4];
+    let last = lasts(b);
+    let first = firsts(register, b);
+    let mut l: usize = 0;
+    while l < 4 {
+        out[l] = lane_alone(b, 8 * l, first[l], last[l]);
         l += 1;
     }
     out

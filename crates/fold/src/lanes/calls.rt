@@ -7,7 +7,7 @@ ghost use lib.ListN.{length};
 ghost use Rattle.crc.specs.Guard.{run, guard};
 ghost use Rattle.words.specs.Words.{rest};
 ghost use Rattle.nibbles.specs.Nibbles.{nibbles};
-use crate::lanes::columns;
+use crate::lanes::lanes_alone;
 
 // What a word leaves, by the tables.
 fn end(tables: &[u16; 160], v: u64) -> u16
@@ -22,8 +22,7 @@ fn block(register: u16, bytes: &[u8]) -> u16
     requires { ⌜ length (now bytes) ≡ 512 ⌝ }
     ensures { λ r. ⌜ r ≡ run register (now (bytes .entry)) ⌝ }
 {
-    let mut words = [0u64; 4];
-    columns(register, bytes, 0, 1, &mut words);
+    let words = lanes_alone(register, bytes);
     let joined = words::joined(words[0], words[1], words[2], words[3]);
     let tables = nibbles::nibble_table();
     end(&tables, joined)

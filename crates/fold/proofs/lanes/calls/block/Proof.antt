@@ -1,20 +1,13 @@
 -- `fold::lanes::calls::block` meets its contract.
 -- Assumes nothing.
-use mathlib.Core.Path.{_≡_, ap, _∙_}
-use native.Mathlib.Omega.{arith}
-use lib.Dec.{lit<}
-use lib.ListN.{length}
-use lib.Seq.{take-all}
-use Rattle.crc.specs.Guard.{run}
+use mathlib.Core.Path.{_∙_}
+use Rattle.fold.proofs.Blocks.{block}
 use borrow.Author.Needs.{needs}
 use Rattle.fold.proofs.lanes.calls.block.Statement.{statement}
 use Rattle.fold.proofs.lanes.calls.block.Tie as tie
 
-slice-aggregate-columns : tie.Need-slice-aggregate-columns
-slice-aggregate-columns c = search needs
-
-columns-requires : tie.Need-columns-requires
-columns-requires c κs = search needs
+lanes-alone-requires : tie.Need-lanes-alone-requires
+lanes-alone-requires c κs = search needs
 
 array-read-joined : tie.Need-array-read-joined
 array-read-joined c = search needs
@@ -40,17 +33,15 @@ end-requires c κs = search needs
 returns : tie.Need-returns
 returns c =
     let j = c .before .before .before in
-    let d = j .before .before in
-    let a = d .before .before .before .args in
-    let whole : length (a .bytes .now) ≡ 512 = search needs in
-    c .end .ensures ∙ j .joined .ensures ∙ d .columns .ensures .1 0 (lit< tt) ∙ ap (run (a .register)) (take-all 512 (a .bytes .now) (omega arith))
+    let d = j .before in
+    let a = d .before .before .args in
+    c .end .ensures ∙ j .joined .ensures ∙ block (a .bytes .now) (search needs) (a .register) (d .lanes-alone .result) (search needs) (d .lanes-alone .ensures)
 
 pub block-spec : {M : Type 1} → statement M
 block-spec =
     tie.close
     (tie.spec
-    slice-aggregate-columns
-    columns-requires
+    lanes-alone-requires
     array-read-joined
     array-read-joined-2
     array-read-joined-3
