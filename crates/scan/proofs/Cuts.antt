@@ -8,9 +8,7 @@ use native.Mathlib.Omega.{arith}
 use lib.ListN.{length, getD, take, drop, set, length-take, length-drop, take-append-drop}
 use lib.Seq.{take-all, sets}
 use Rattle.xor.specs.Xors.{xors}
-use lib.Dec.{ltb}
 use Rattle.tag.specs.Blocks.{formatAt}
-use Rattle.copy.proofs.Puts.{sets-turn}
 use Rattle.scan.specs.declared.Scan.{Scan}
 use Rattle.scan.specs.Scans.{dataOfPiece, tagOfPiece, positions, registers, tags, buffer, advanced}
 
@@ -33,12 +31,6 @@ xors-part (x ∷ w) [] zero h = refl
 xors-part (x ∷ w) [] (suc k) h = ap (λ (l : List ℕ). x ∷ l) (take-append-drop k w)
 xors-part (x ∷ w) (y ∷ b) zero h = absurd (not-suc-le-zero h)
 xors-part (x ∷ w) (y ∷ b) (suc k) h = rw (xors-part w b k (le-of-suc-le-suc h))
-
--- a turn of the loop of stores, whose place the code finds from the position
-pub store-turn : (t : List ℕ) (at i place : ℕ) (bytes : List ℕ) → i < length bytes → place ≡ at + i
-    → sets (set t place (getD bytes i 0)) (at + (i + 1)) (drop (i + 1) bytes) ≡ sets t (at + i) (drop i bytes)
-store-turn t at i place bytes h e =
-    ap (λ (k : ℕ). sets (set t k (getD bytes i 0)) (at + (i + 1)) (drop (i + 1) bytes)) e ∙ sets-turn t at i bytes h
 
 -- a state with other positions, registers and tag bytes
 abbrev pub holding : Scan → List ℕ → List ℕ → List ℕ → Scan

@@ -17,6 +17,7 @@ pub mod Feeding
 pub mod Halves
 pub mod Fitness
 pub mod Rows
+pub mod Replacing
 pub mod Cuts
 pub mod Judging
 pub mod Beside

@@ -8,7 +8,8 @@ pub use finishing::finish;
 pub use starting::start;
 pub use taking::piece;
 ghost use mathlib.Core.Path.{_≡_};
-ghost use Prim.Native.Nat.{_*_, _≤_};
+ghost use Prim.Native.Nat.{ℕ, _*_, _≤_, _<_, max};
+ghost use lib.ListN.{getD};
 ghost use Rattle.format.specs.Methods.{formatOf};
 ghost use Rattle.scan.specs.Scans.{fit};
 ghost use Rattle.scan.specs.Steps.{nonePast};
@@ -32,12 +33,35 @@ pub struct Taken {
     pub state: Scan,
 }
 
-// Whether none of the first positions stands past the end of a block.
+// The greater of two positions.
+fn most(a: u16, b: u16) -> u16
+    ensures { λ r. ⌜ r ≡ max a b ⌝ }
+{
+    if a < b { b } else { a }
+}
+
+// The furthest of all sixteen positions: none is past it.
+fn furthest(at: [u16; 16]) -> u16
+    ensures { λ r. ⌜ ((i : ℕ) → i < 16 → getD at i 0 ≤ r) ⌝ }
+{
+    let mut far: u16 = 0;
+    let mut i: usize = 0;
+    while i < 16 {
+        far = most(far, at[i]);
+        i += 1;
+    }
+    far
+}
+
+// Whether none of the first positions stands past the end of a block. The furthest of all tells it at once, but for one past the first.
 fn none_past(method: u8, at: [u16; 16], members: usize) -> bool
     requires { ⌜ members ≤ 16 ⌝ }
     ensures { λ r. ⌜ r ≡ nonePast (formatOf method) members at ⌝ }
 {
     let block = format::block_length(method);
+    if furthest(at) as usize <= block {
+        return true;
+    }
     let mut member: usize = 0;
     while member < members {
         if at[member] as usize > block {

@@ -1,7 +1,9 @@
 // A piece of a member's block is taken in.
 ghost use mathlib.Core.Path.{_≡_};
 ghost use Prim.Native.Nat.{_+_, _-_, _*_, _≤_, _<_};
-ghost use lib.ListN.{length, getD};
+ghost use mathlib.Core.Bool.{cond};
+ghost use lib.Dec.{eqb};
+ghost use lib.ListN.{length, getD, set};
 ghost use lib.Seq.{sets};
 ghost use Rattle.format.specs.Methods.{formatOf};
 ghost use Rattle.tag.specs.Blocks.{formatAt};
@@ -10,8 +12,8 @@ use crate::Scan;
 use crate::Taken;
 use crate::fit;
 use crate::tag_at;
+use copy::put;
 use format::METHOD;
-use format::MOST_TAGS;
 use format::data_room;
 use format::tag_place;
 use xor::least;
@@ -39,20 +41,42 @@ fn piece_refusal(state: Scan, member: usize, count: usize, length: usize) -> u8
     0
 }
 
-// Stores tag bytes of a member, the first of which stands at `position` of its block, each at its place of the member's tag.
-fn store(method: u8, tag: &mut [u8; MOST_TAGS], member: usize, position: usize, bytes: &[u8])
+// Stores tag bytes of a member, the first of which stands at `position` of its block, each at its place of the member's tag. A whole tag has a
+// length that the compiler knows, and is stored at once.
+fn store(method: u8, tag: &mut [u8], member: usize, position: usize, bytes: &[u8])
     requires { ⌜ member < 16 ⌝ }
     requires { ⌜ formatOf method .dataLength ≤ position ⌝ }
     requires { ⌜ position + length (now bytes) ≤ formatOf method .blockLength ⌝ }
     ensures { λ _. ⌜ now (tag .exit) ≡ sets (now (tag .entry)) (formatOf method .tagLength * member + (position - formatOf method .dataLength)) (now (bytes .entry)) ⌝ }
 {
     let from = tag_at(method, member) + tag_place(method, position);
+    let whole = format::tag_length(method);
+    if bytes.len() == whole {
+        put(tag, from, &bytes[0..whole]);
+        return;
+    }
+    put(tag, from, bytes);
+}
+
+// A number, or another where two places are the same.
+fn chosen(held: u16, here: u16, place: u16, value: u16) -> u16
+    ensures { λ r. ⌜ r ≡ cond (eqb here place) value held ⌝ }
+{
+    if here == place { value } else { held }
+}
+
+// Sixteen numbers with another at one place. Each is chosen anew: one stored alone among the others would have to be waited for when they are read
+// together.
+fn replaced(held: [u16; 16], place: u16, value: u16) -> [u16; 16]
+    ensures { λ r. ⌜ r ≡ set held place value ⌝ }
+{
+    let mut next = [0u16; 16];
     let mut i: usize = 0;
-    while i < bytes.len() {
-        let place = from + i;
-        tag[place] = bytes[i];
+    while i < 16 {
+        next[i] = chosen(held[i], i as u16, place, value);
         i += 1;
     }
+    next
 }
 
 // Takes in a piece that nothing refuses. It is cut once: bytes of data, as far as the block's data go, then bytes of tag.
@@ -65,19 +89,29 @@ fn take_in(state: Scan, member: usize, bytes: &[u8], work: &mut [u8]) -> Scan
 {
     let count = bytes.len();
     let method = METHOD;
-    let position = state.at[member] as usize;
+    let array = state.array;
+    let positions = state.at;
+    let registers = state.register;
+    let mut tag = state.tag;
+    let position = positions[member] as usize;
     let room = data_room(method, position);
     let cut = least(room, count);
     let from = format::data_length(method) - room;
     let end = from + cut;
     let head = &bytes[..cut];
     let tail = &bytes[cut..];
-    let mut next = state;
-    next.at[member] = (position + count) as u16;
-    next.register[member] = format::advance(method, position, next.register[member], head);
+    store(method, &mut tag, member, position + room, tail);
+    let after = format::advance(method, position, registers[member], head);
     xor::xor_into(&mut work[from..end], head);
-    store(method, &mut next.tag, member, position + room, tail);
-    next
+    let at = replaced(positions, member as u16, (position + count) as u16);
+    let register = replaced(registers, member as u16, after);
+    Scan {
+        array,
+        stripe: state.stripe,
+        at,
+        register,
+        tag,
+    }
 }
 
 // Takes in the next bytes of a member, or hands the state back as it came where they are refused.

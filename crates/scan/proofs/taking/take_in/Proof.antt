@@ -1,11 +1,12 @@
 -- `scan::taking::take_in` meets its contract.
 -- Assumes nothing.
-use mathlib.Core.Path.{_≡_, refl, sym, ap, _∙_}
-use Prim.Native.Nat.{_+_, _-_, _≤_}
+use mathlib.Core.Path.{_≡_, ap, ap₂, _∙_}
+use mathlib.Core.List.{List}
+use Prim.Native.Nat.{ℕ, _+_, _-_, _≤_}
 use native.Mathlib.Omega.{arith}
 use lib.ListN.{length, length-take, length-drop}
 use Rattle.tag.specs.Blocks.{formatAt}
-use Rattle.scan.proofs.Cuts.{state-by-cut, work-by-cut}
+use Rattle.scan.proofs.Cuts.{holding, state-by-cut, work-by-cut}
 use borrow.Author.Needs.{needs}
 use Rattle.scan.proofs.taking.take_in.Statement.{statement}
 use Rattle.scan.proofs.taking.take_in.Tie as tie
@@ -13,8 +14,8 @@ use Rattle.scan.proofs.taking.take_in.Tie as tie
 mul-position : tie.Need-mul-position
 mul-position c = search needs
 
-element-copy-out-position : tie.Need-element-copy-out-position
-element-copy-out-position c = search needs
+array-read-position : tie.Need-array-read-position
+array-read-position c = search needs
 
 cast-position : tie.Need-cast-position
 cast-position c = search needs
@@ -46,32 +47,28 @@ part-tail-start c = search needs
 part-tail-end : tie.Need-part-tail-end
 part-tail-end c = search needs
 
-add-next : tie.Need-add-next
-add-next c = let s = c .before .before .before .before .before .before .before .before in let F = formatAt (s .args .t1 .array) in omega (arith, s .pre .1 .0, F .block-parts, F .data-most, F .tag-quarters, F .quarter-most)
+slice-aggregate-store : tie.Need-slice-aggregate-store
+slice-aggregate-store c = search needs
 
-cast-next : tie.Need-cast-next
-cast-next c = let s = c .before .before .before .before .before .before .before .before in let F = formatAt (s .args .t1 .array) in omega (arith, s .pre .1 .0, F .block-parts, F .data-most, F .tag-quarters, F .quarter-most)
+add-store : tie.Need-add-store
+add-store c = let s = c .before .before .before .before .before .before .before .before .before .before .before .before in let F = formatAt (s .args .state .array) in omega (arith, s .pre .1 .0, F .block-parts, F .data-most, F .tag-quarters, F .quarter-most, c .before .before .before .before .before .data-room .ensures)
 
-mul-next : tie.Need-mul-next
-mul-next c = search needs
-
-element-write-next : tie.Need-element-write-next
-element-write-next c = search needs
+store-requires : tie.Need-store-requires
+store-requires c κs =
+    let s = c .before .before .before .before .before .before .before .before .before .before .before .before in
+    let F = formatAt (s .args .state .array) in
+    let room = c .before .before .before .before .before .data-room in
+    let cut = c .before .before .before .before .least in
+    (s .pre .0, (omega (arith, room .ensures), simp (length-take, length-drop) (omega (arith, s .pre .1 .0, F .block-parts, room .ensures, cut .ensures))))
 
 mul-advance : tie.Need-mul-advance
 mul-advance c = search needs
 
-element-copy-out-advance : tie.Need-element-copy-out-advance
-element-copy-out-advance c = search needs
+array-read-advance : tie.Need-array-read-advance
+array-read-advance c = search needs
 
 advance-requires : tie.Need-advance-requires
 advance-requires c κs = search needs
-
-mul-next-2 : tie.Need-mul-next-2
-mul-next-2 c = search needs
-
-element-write-next-2 : tie.Need-element-write-next-2
-element-write-next-2 c = search needs
 
 sub-xor-into : tie.Need-sub-xor-into
 sub-xor-into c = search needs
@@ -85,37 +82,46 @@ part-xor-into-end c = search needs
 xor-into-requires : tie.Need-xor-into-requires
 xor-into-requires c κs = search needs
 
-add-store : tie.Need-add-store
-add-store c = let s = c .before .before .before .before .before .before .before .before .before .before .before .before .before .before .before in let F = formatAt (s .args .t1 .array) in omega (arith, s .pre .1 .0, F .block-parts, F .data-most, F .tag-quarters, F .quarter-most, c .before .before .before .before .before .before .before .before .before .before .before .data-room .ensures)
+cast-replaced : tie.Need-cast-replaced
+cast-replaced c = search needs
 
-store-requires : tie.Need-store-requires
-store-requires c κs =
-    let s = c .before .before .before .before .before .before .before .before .before .before .before .before .before .before .before in
-    let F = formatAt (s .args .t1 .array) in
-    let room = c .before .before .before .before .before .before .before .before .before .before .before .data-room in
-    let cut = c .before .before .before .before .before .before .before .before .before .before .least in
-    (s .pre .0, (omega (arith, room .ensures), simp (length-take, length-drop) (omega (arith, s .pre .1 .0, F .block-parts, room .ensures, cut .ensures))))
+add-replaced : tie.Need-add-replaced
+add-replaced c = let s = c .before .before .before .before .before .before .before .before .before .before .before .before .before .before .before .before .before .before .before in let F = formatAt (s .args .state .array) in omega (arith, s .pre .1 .0, F .block-parts, F .data-most, F .tag-quarters, F .quarter-most)
+
+cast-replaced-2 : tie.Need-cast-replaced-2
+cast-replaced-2 c = let s = c .before .before .before .before .before .before .before .before .before .before .before .before .before .before .before .before .before .before .before in let F = formatAt (s .args .state .array) in omega (arith, s .pre .1 .0, F .block-parts, F .data-most, F .tag-quarters, F .quarter-most)
+
+replaced-requires : tie.Need-replaced-requires
+replaced-requires c κs = search needs
+
+cast-replaced-3 : tie.Need-cast-replaced-3
+cast-replaced-3 c = search needs
+
+replaced-requires-2 : tie.Need-replaced-requires-2
+replaced-requires-2 c κs = search needs
 
 same-length : tie.Need-same-length
 same-length c = search needs
 
-register-long : (c : tie.After-data-length) → length (c .before .before .before .before .before .before .args .t1 .register) ≡ 16
+register-long : (c : tie.After-data-length) → length (c .before .before .before .before .before .before .before .before .before .args .state .register) ≡ 16
 register-long c = search needs
 
 returns : tie.Need-returns
 returns c =
     let x = c .before .before .before .before in
-    let r = c .before .before .before .before .before .before in
-    let e = c .before .before .before .before .before .before .before .before .before .before in
+    let r = x .before .before in
+    let t = r .before .before in
+    let e = t .before .before .before .before in
     let l = e .before in
     let d = l .before in
-    let s = c .before .before .before .before .before .before .before .before .before .before .before .before .before .before .before .before in
+    let s = d .before .before .before .before .before .before .before in
     let a = s .args in
     let room = d .data-room .result in
     let cut = l .least .result in (
-      state-by-cut (a .t1) (a .member) (a .bytes .now) room cut (d .data-room .ensures) (l .least .ensures) (register-long e) (s .pre .0)
-          (r .advance .result) (c .store .last .1 .0) (r .advance .ensures) (c .store .ensures),
-      work-by-cut (a .t1) (a .member) (a .bytes .now) room cut (d .data-room .ensures) (l .least .ensures)
+      ap₂ (λ (p q : List ℕ). holding (a .state) p q (t .store .last .1 .0)) (c .before .replaced .ensures) (c .replaced2 .ensures)
+          ∙ state-by-cut (a .state) (a .member) (a .bytes .now) room cut (d .data-room .ensures) (l .least .ensures) (register-long e) (s .pre .0)
+          (r .advance .result) (t .store .last .1 .0) (r .advance .ensures) (t .store .ensures),
+      work-by-cut (a .state) (a .member) (a .bytes .now) room cut (d .data-room .ensures) (l .least .ensures)
           (a .work .now) (x .xor-into .last .0) (e .data-length .result - room) (s .pre .1 .1) (ap (λ (k : _). k - room) (e .data-length .ensures)) (x .xor-into .ensures),
     )
 
@@ -124,7 +130,7 @@ take-in-spec =
     tie.close
     (tie.spec
     mul-position
-    element-copy-out-position
+    array-read-position
     cast-position
     data-room-requires
     least-requires
@@ -135,20 +141,21 @@ take-in-spec =
     sub-tail
     part-tail-start
     part-tail-end
-    add-next
-    cast-next
-    mul-next
-    element-write-next
+    slice-aggregate-store
+    add-store
+    store-requires
     mul-advance
-    element-copy-out-advance
+    array-read-advance
     advance-requires
-    mul-next-2
-    element-write-next-2
     sub-xor-into
     part-xor-into-start
     part-xor-into-end
     xor-into-requires
-    add-store
-    store-requires
+    cast-replaced
+    add-replaced
+    cast-replaced-2
+    replaced-requires
+    cast-replaced-3
+    replaced-requires-2
     same-length
     returns)
