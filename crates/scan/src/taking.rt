@@ -7,7 +7,8 @@ ghost use lib.ListN.{length, getD, set};
 ghost use lib.Seq.{sets};
 ghost use Rattle.format.specs.Methods.{formatOf};
 ghost use Rattle.tag.specs.Blocks.{formatAt};
-ghost use Rattle.scan.specs.Scans.{buffer, advanced, pieceRefusal, pieceState, pieceWork};
+ghost use Rattle.scan.specs.Steps.{combinedFrom, tagsFrom};
+ghost use Rattle.scan.specs.Scans.{dataOfPiece, buffer, advanced, pieceRefusal, pieceState, pieceWork};
 use crate::Scan;
 use crate::Taken;
 use crate::fit;
@@ -79,7 +80,64 @@ fn replaced(held: [u16; 16], place: u16, value: u16) -> [u16; 16]
     next
 }
 
-// Takes in a piece that nothing refuses. It is cut once: bytes of data, as far as the block's data go, then bytes of tag.
+// Passes a piece on, from a position of its block on and with the guard's register there. It is cut once: bytes of data, as far as the block's data
+// go, then bytes of tag. Gives the register after it.
+fn pass_on(
+    method: u8,
+    member: usize,
+    position: usize,
+    register: u16,
+    bytes: &[u8],
+    work: &mut [u8],
+    tag: &mut [u8],
+) -> u16
+    requires { ⌜ member < 16 ⌝ }
+    requires { ⌜ position + length (now bytes) ≤ formatOf method .blockLength ⌝ }
+    requires { ⌜ length (now work) ≡ formatOf method .dataLength ⌝ }
+    ensures { λ r. ⌜ r ≡ formatOf method .advance position register (dataOfPiece (formatOf method) position (now (bytes .entry))) ⌝ }
+    ensures { λ _. ⌜ now (work .exit) ≡ combinedFrom (formatOf method) position (now (work .entry)) (now (bytes .entry)) ⌝ }
+    ensures { λ _. ⌜ now (tag .exit) ≡ tagsFrom (formatOf method) position (now (tag .entry)) member (now (bytes .entry)) ⌝ }
+{
+    let room = data_room(method, position);
+    let cut = least(room, bytes.len());
+    let from = format::data_length(method) - room;
+    let end = from + cut;
+    let head = &bytes[..cut];
+    let tail = &bytes[cut..];
+    store(method, tag, member, position + room, tail);
+    let after = format::advance(method, position, register, head);
+    xor::xor_into(&mut work[from..end], head);
+    after
+}
+
+// The same; of a whole block for which nothing was taken, with numbers that wait for no state.
+fn pass(
+    method: u8,
+    member: usize,
+    position: usize,
+    register: u16,
+    bytes: &[u8],
+    work: &mut [u8],
+    tag: &mut [u8],
+) -> u16
+    requires { ⌜ member < 16 ⌝ }
+    requires { ⌜ position + length (now bytes) ≤ formatOf method .blockLength ⌝ }
+    requires { ⌜ length (now work) ≡ formatOf method .dataLength ⌝ }
+    ensures { λ r. ⌜ r ≡ formatOf method .advance position register (dataOfPiece (formatOf method) position (now (bytes .entry))) ⌝ }
+    ensures { λ _. ⌜ now (work .exit) ≡ combinedFrom (formatOf method) position (now (work .entry)) (now (bytes .entry)) ⌝ }
+    ensures { λ _. ⌜ now (tag .exit) ≡ tagsFrom (formatOf method) position (now (tag .entry)) member (now (bytes .entry)) ⌝ }
+{
+    let block = format::block_length(method);
+    let first = format::start(method);
+    if bytes.len() == block {
+        if register == first {
+            return pass_on(method, member, 0, first, &bytes[0..block], work, tag);
+        }
+    }
+    pass_on(method, member, position, register, bytes, work, tag)
+}
+
+// Takes in a piece that nothing refuses.
 fn take_in(state: Scan, member: usize, bytes: &[u8], work: &mut [u8]) -> Scan
     requires { ⌜ member < 16 ⌝ }
     requires { ⌜ getD (state .at) member 0 + length (now bytes) ≤ formatAt (state .array) .blockLength ⌝ }
@@ -87,22 +145,22 @@ fn take_in(state: Scan, member: usize, bytes: &[u8], work: &mut [u8]) -> Scan
     ensures { λ r. ⌜ r ≡ advanced state member (now (bytes .entry)) ⌝ }
     ensures { λ _. ⌜ now (work .exit) ≡ buffer (formatAt (state .array)) (state .at) (now (work .entry)) member (now (bytes .entry)) ⌝ }
 {
-    let count = bytes.len();
     let method = METHOD;
     let array = state.array;
     let positions = state.at;
     let registers = state.register;
     let mut tag = state.tag;
     let position = positions[member] as usize;
-    let room = data_room(method, position);
-    let cut = least(room, count);
-    let from = format::data_length(method) - room;
-    let end = from + cut;
-    let head = &bytes[..cut];
-    let tail = &bytes[cut..];
-    store(method, &mut tag, member, position + room, tail);
-    let after = format::advance(method, position, registers[member], head);
-    xor::xor_into(&mut work[from..end], head);
+    let count = bytes.len();
+    let after = pass(
+        method,
+        member,
+        position,
+        registers[member],
+        bytes,
+        work,
+        &mut tag,
+    );
     let at = replaced(positions, member as u16, (position + count) as u16);
     let register = replaced(registers, member as u16, after);
     Scan {
