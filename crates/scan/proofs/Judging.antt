@@ -10,9 +10,9 @@ use lib.ListN.{length, getD, take, drop, length-take}
 use lib.Seq.{getD-take}
 use Rattle.format.specs.Formats.{mostTags}
 use Rattle.layout.specs.Answers.{answer}
+use Rattle.layout.specs.declared.Array.{Array}
 use Rattle.layout.specs.Places.{ownerRefusal}
 use Rattle.format.proofs.Sizes.{times-next}
-use Rattle.layout.proofs.Ranges.{place-sound}
 use Rattle.tag.specs.Tags.{found, tagWithin, due, dueAt, fits}
 use Rattle.tag.proofs.Within.{tag-inside}
 use Rattle.scan.proofs.Joins.{getD-map-in}
@@ -26,8 +26,27 @@ use Rattle.stripe.specs.Verdicts.{badMembers, tornPlaces, verdict}
 use Rattle.stripe.proofs.Tables.{length-table, getD-table, table-ext}
 use Rattle.scan.specs.declared.Scan.{Scan}
 use Rattle.scan.specs.Scans.{heldSummary, finishRefusal, finishNumbers}
-use Rattle.scan.specs.Steps.{goodHeld, badHeld}
+use Rattle.scan.specs.Steps.{goodBy, goodHeld, badHeld}
 use Rattle.scan.proofs.Refusals.{refused-verdict}
+
+-- what a finish looks at of a state: all but the positions
+abbrev pub held : Array → ℕ → List ℕ → List ℕ → Scan
+held a stripe register tag = record { array = a; stripe = stripe; at = []; register = register; tag = tag }
+
+pub bad-by-held : (s : Scan) → badHeld (held (s .array) (s .stripe) (s .register) (s .tag)) ≡ badHeld s
+unfolding badHeld goodHeld
+bad-by-held s = refl
+
+-- one member, by the steps of its check
+pub good-by-steps : (a : Array) (stripe m at g register : ℕ) (tag : List ℕ) → ownerRefusal a stripe m ≡ 0 → m < 16 → length tag ≡ mostTags
+    → (expected f : Fields) (good : Bool) → at ≡ formatAt a .tagLength * m → g ≡ formatAt a .guardOf register → expected ≡ dueAt a stripe m g
+    → f ≡ found (formatAt a) (tagWithin (formatAt a) tag at) → good ≡ fits f expected → good ≡ goodBy a stripe m register tag
+unfolding goodBy span
+good-by-steps a stripe m at g register tag place few long expected f good here eg e r q =
+    let F = formatAt a in
+    let there : tagWithin F tag at ≡ take (F .tagLength) (drop (F .tagLength * m) tag) =
+    ap (tagWithin F tag) here ∙ tag-inside F tag (F .tagLength * m) (omega (arith, long, times-next (F .tagLength) m 16 few, F .tag-quarters, F .quarter-most)) in
+    q ∙ ap₂ fits (r ∙ ap (found F) there) (e ∙ due-somewhere a stripe m g place ∙ ap (due a stripe m) eg)
 
 module _ (s : Scan) where
   pub length-badHeld : length (badHeld s) ≡ s .array .members
@@ -38,21 +57,15 @@ module _ (s : Scan) where
   unfolding badHeld
   badHeld-at m h good e = getD-table (s .array .members) (λ m. not (goodHeld s m)) false m h ∙ ap not (sym e)
 
-  -- one member, by the steps of its check
-  pub good-by-steps : (m at g : ℕ) → ownerRefusal (s .array) (s .stripe) m ≡ 0 → m < 16 → length (s .tag) ≡ mostTags → s .array .members ≤ length (s .register)
-      → (expected f : Fields) (good : Bool) → at ≡ formatAt (s .array) .tagLength * m → g ≡ formatAt (s .array) .guardOf (getD (s .register) m 0)
-      → expected ≡ dueAt (s .array) (s .stripe) m g → f ≡ found (formatAt (s .array)) (tagWithin (formatAt (s .array)) (s .tag) at)
-      → good ≡ fits f expected → good ≡ goodHeld s m
-  unfolding goodHeld span
-  good-by-steps m at g place few long held expected f good here eg e r q =
+  -- one member, by its own register
+  pub good-held : (m : ℕ) → m < s .array .members → s .array .members ≤ length (s .register) → goodBy (s .array) (s .stripe) m (getD (s .register) m 0) (s .tag) ≡ goodHeld s m
+  unfolding goodBy goodHeld
+  good-held m inside held =
       let F = formatAt (s .array) in
       let n = s .array .members in
-      let inside : m < n = place-sound (s .array) (s .stripe) m place .here in
-      let tag : tagWithin F (s .tag) at ≡ take (F .tagLength) (drop (F .tagLength * m) (s .tag)) =
-      ap (tagWithin F (s .tag)) here ∙ tag-inside F (s .tag) (F .tagLength * m) (omega (arith, long, times-next (F .tagLength) m 16 few, F .tag-quarters, F .quarter-most)) in
-      let told : g ≡ getD (map (F .guardOf) (take n (s .register))) m 0 =
-      eg ∙ ap (F .guardOf) (sym (getD-take n (s .register) m 0 inside)) ∙ sym (getD-map-in (F .guardOf) (take n (s .register)) m 0 0 (rw length-take (omega arith))) in
-      q ∙ ap₂ fits (r ∙ ap (found F) tag) (e ∙ due-somewhere (s .array) (s .stripe) m g place ∙ ap (due (s .array) (s .stripe) m) told)
+      let told : F .guardOf (getD (s .register) m 0) ≡ getD (map (F .guardOf) (take n (s .register))) m 0 =
+      ap (F .guardOf) (sym (getD-take n (s .register) m 0 inside)) ∙ sym (getD-map-in (F .guardOf) (take n (s .register)) m 0 0 (rw length-take (omega arith))) in
+      ap (λ (g : ℕ). fits (found F (span (F .tagLength * m) (F .tagLength) (s .tag))) (due (s .array) (s .stripe) m g)) told
 
   -- the summary of what is held says the same of the members
   bad-members-held : (w : List ℕ) → badMembers (s .array) (s .stripe) (heldSummary (formatAt (s .array)) (s .array .members) (s .register) (s .tag) w) ≡ badHeld s

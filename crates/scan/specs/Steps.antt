@@ -7,6 +7,7 @@ use lib.Dec.{leb, eqb}
 use lib.ListN.{getD, take, drop}
 use lib.Seq.{sets}
 use Rattle.xor.specs.Xors.{xors}
+use Rattle.layout.specs.declared.Array.{Array}
 use Rattle.tag.specs.Tags.{found, due, fits}
 use Rattle.stripe.specs.Tables.{table, all, span}
 use Rattle.format.specs.Formats.{Format}
@@ -27,6 +28,10 @@ combinedFrom F p work bytes = take p work ++ xors (drop p work) (dataOfPiece F p
 
 abbrev pub tagsFrom : Format → ℕ → List ℕ → ℕ → List ℕ → List ℕ
 tagsFrom F p tag m bytes = sets tag (F .tagLength * m + (p - F .dataLength)) (tagOfPiece F p bytes)
+
+-- the tag bytes of member m, among those of all, are those due to a register at its place
+unfoldable pub goodBy : Array → ℕ → ℕ → ℕ → List ℕ → Bool
+goodBy a stripe m register tag = let F = formatAt a in fits (found F (span (F .tagLength * m) (F .tagLength) tag)) (due a stripe m (F .guardOf register))
 
 -- a member's tag bytes are those due to its register at its place
 unfoldable pub goodHeld : Scan → ℕ → Bool

@@ -2,16 +2,18 @@
 ghost use mathlib.Core.Path.{_≡_};
 ghost use Prim.Native.Nat.{_*_, _≤_};
 ghost use lib.ListN.{length, getD};
+ghost use Rattle.format.specs.Formats.{mostTags};
 ghost use Rattle.format.specs.Methods.{formatOf};
 ghost use Rattle.layout.specs.Arrays.{stripeRefusal};
 ghost use Rattle.layout.specs.Places.{ownerRefusal};
 ghost use Rattle.verdict.specs.Verdicts.{count, lowest, scrubbedNumbers};
 ghost use Rattle.scan.specs.Scans.{finishRefusal, finishNumbers};
-ghost use Rattle.scan.specs.Steps.{allWhole, goodHeld, badHeld};
+ghost use Rattle.scan.specs.Steps.{allWhole, goodBy, badHeld};
 use crate::Scan;
 use crate::fit;
 use crate::tag_at;
 use format::METHOD;
+use layout::Array;
 use verdict::Scrubbed;
 
 // The bad members of a stripe: the lowest of them, and how many they are.
@@ -55,20 +57,17 @@ fn finish_refusal(state: Scan, length: usize) -> u8
     0
 }
 
-// Whether the tag bytes held of a member are those due to its register.
-fn is_good(state: Scan, member: usize) -> bool
-    requires { ⌜ ownerRefusal (state .array) (state .stripe) member ≡ 0 ⌝ }
-    ensures { λ r. ⌜ r ≡ goodHeld state member ⌝ }
+// Whether the tag bytes held of a member, among those of all, are those due to its register.
+fn is_good(array: Array, stripe: u64, member: usize, register: u16, bytes: &[u8]) -> bool
+    requires { ⌜ ownerRefusal array stripe member ≡ 0 ⌝ }
+    requires { ⌜ length (now bytes) ≡ mostTags ⌝ }
+    ensures { λ r. ⌜ r ≡ goodBy array stripe member register (now (bytes .entry)) ⌝ }
 {
-    let array = state.array;
-    let stripe = state.stripe;
-    let register = state.register;
-    let bytes = state.tag;
     let method = METHOD;
     let at = tag_at(method, member);
-    let guard = format::guard_of(method, register[member]);
+    let guard = format::guard_of(method, register);
     let expected = tag::due(array, stripe, member, guard);
-    tag::is_due(tag::found(method, &bytes, at), expected)
+    tag::is_due(tag::found(method, bytes, at), expected)
 }
 
 // The bad members, found from the highest down; the lowest is the number of members where none is bad.
@@ -77,13 +76,17 @@ fn bad_members(state: Scan) -> BadMembers
     ensures { λ r. ⌜ r .lowest ≡ lowest (badHeld state) ⌝ }
     ensures { λ r. ⌜ r .count ≡ count (badHeld state) ⌝ }
 {
-    let members = state.array.members;
+    let array = state.array;
+    let stripe = state.stripe;
+    let registers = state.register;
+    let bytes = state.tag;
+    let members = array.members;
     let mut lowest = members;
     let mut count: usize = 0;
     let mut member = members;
     while 0 < member {
         member -= 1;
-        if !is_good(state, member) {
+        if !is_good(array, stripe, member, registers[member], &bytes) {
             lowest = member;
             count += 1;
         }
