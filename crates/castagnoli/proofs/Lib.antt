@@ -1,0 +1,9 @@
+pub mod Joined
+pub mod Linear
+pub mod Combined
+pub mod Mirrored
+pub mod Noticed
+pub mod Sharp
+pub mod Shifted
+pub mod Looked
+pub mod Vectors

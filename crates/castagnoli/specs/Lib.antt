@@ -1,0 +1,4 @@
+pub mod Reflected
+pub mod Castagnoli
+pub mod Tables
+pub mod Blocks

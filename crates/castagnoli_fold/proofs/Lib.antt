@@ -1,0 +1,4 @@
+pub mod Multiple
+pub mod Heads
+pub mod Leads
+pub mod Strides

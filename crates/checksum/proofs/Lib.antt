@@ -1,0 +1,10 @@
+pub mod Reduced
+pub mod Words
+pub mod Weighed
+pub mod Carries
+pub mod Noticed
+pub mod Joined
+pub mod Rows
+pub mod Columns
+pub mod Strides
+pub mod Figures
