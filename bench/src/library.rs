@@ -154,6 +154,10 @@ fn verdict(answer: Answer) -> Verdict {
         2 => Verdict::Torn {
             place: answer.first as usize,
         },
+        3 => Verdict::Unchecked {
+            member: answer.first as usize,
+            count: answer.count as usize,
+        },
         kind => panic!("no verdict has the number {kind}"),
     }
 }

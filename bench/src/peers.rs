@@ -176,15 +176,40 @@ fn due(stripe: u64, member: usize, guard: u16) -> [u8; 8] {
     [g0, g1, kind, VOLUME, r0, r1, r2, r3]
 }
 
-fn is_good<P: Peer>(stripe: u64, member: usize, block: &[u8]) -> bool {
-    block[DATA..] == due(stripe, member, guard::<P>(&block[..DATA]))
+#[derive(Clone, Copy, PartialEq)]
+enum Standing {
+    Good,
+    Bad,
+    Unchecked,
 }
 
-/// What is said of a stripe: which members are good, and what its data combine to.
-fn verdict(good: [bool; MEMBERS], sum: &[u8; DATA]) -> Verdict {
-    if let Some(member) = good.iter().position(|good| !good) {
-        let count = good.iter().filter(|good| !**good).count();
+/// How a block with this tag stands where that one is due.
+fn standing(tag: &[u8], due: [u8; 8]) -> Standing {
+    if *tag == due {
+        Standing::Good
+    } else if tag[2..4] == [0xFF; 2] {
+        Standing::Unchecked
+    } else {
+        Standing::Bad
+    }
+}
+
+fn standing_at<P: Peer>(stripe: u64, member: usize, block: &[u8]) -> Standing {
+    let (data, tag) = block.split_at(DATA);
+    standing(tag, due(stripe, member, guard::<P>(data)))
+}
+
+/// What is said of a stripe: how its members stand, and what its data combine to.
+fn verdict(members: [Standing; MEMBERS], sum: &[u8; DATA]) -> Verdict {
+    let lowest = |kind| members.iter().position(|member| *member == kind);
+    let count = |kind| members.iter().filter(|member| **member == kind).count();
+    if let Some(member) = lowest(Standing::Bad) {
+        let count = count(Standing::Bad);
         return Verdict::Bad { member, count };
+    }
+    if let Some(member) = lowest(Standing::Unchecked) {
+        let count = count(Standing::Unchecked);
+        return Verdict::Unchecked { member, count };
     }
     if *sum == [0; DATA] {
         return Verdict::Clean;
@@ -195,14 +220,17 @@ fn verdict(good: [bool; MEMBERS], sum: &[u8; DATA]) -> Verdict {
 }
 
 pub fn scrub<P: Peer>(stripe: u64, bytes: &[u8]) -> Verdict {
-    let good =
-        array::from_fn(|member| is_good::<P>(stripe, member, &bytes[member * BLOCK..][..BLOCK]));
-    verdict(good, &P::combined(bytes, MEMBERS))
+    let members = array::from_fn(|member| {
+        standing_at::<P>(stripe, member, &bytes[member * BLOCK..][..BLOCK])
+    });
+    verdict(members, &P::combined(bytes, MEMBERS))
 }
 
 /// Whether the member was rebuilt: all others must be good.
 pub fn rebuild<P: Peer>(stripe: u64, member: usize, bytes: &mut [u8]) -> bool {
-    let good = |(other, block)| other == member || is_good::<P>(stripe, other, block);
+    let good = |(other, block)| {
+        other == member || standing_at::<P>(stripe, other, block) == Standing::Good
+    };
     if !blocks(bytes).enumerate().all(good) {
         return false;
     }
@@ -249,7 +277,9 @@ pub fn scan<'a, P: Peer>(
         scan.piece::<P>(member, block, work);
     }
     assert_eq!(scan.at, [BLOCK; MEMBERS], "every member is whole");
-    let good =
-        array::from_fn(|member| scan.tag[member] == due(stripe, member, scan.register[member]));
-    verdict(good, work)
+    let members = array::from_fn(|member| {
+        let due = due(stripe, member, scan.register[member]);
+        standing(&scan.tag[member], due)
+    });
+    verdict(members, work)
 }

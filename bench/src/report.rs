@@ -174,7 +174,7 @@ fn report(
     let [_, _, _, members, _, s0, s1, s2, s3] = header;
     let stripes = u32::from_be_bytes([s0, s1, s2, s3]);
     writeln!(output, "SCRUB v1 members {members} stripes {stripes}")?;
-    let (mut clean, mut bad, mut torn) = (0, 0, 0);
+    let (mut clean, mut bad, mut unchecked, mut torn) = (0, 0, 0, 0);
     let mut bytes = [0; STRIPE];
     for stripe in 0..stripes {
         input.read_exact(&mut bytes)?;
@@ -187,6 +187,10 @@ fn report(
                 bad += 1;
                 writeln!(output, "{stripe} BAD {member} {count}")?;
             }
+            Verdict::Unchecked { member, count } => {
+                unchecked += 1;
+                writeln!(output, "{stripe} UNCHECKED {member} {count}")?;
+            }
             Verdict::Torn { place } => {
                 torn += 1;
                 writeln!(output, "{stripe} TORN {place}")?;
@@ -195,7 +199,7 @@ fn report(
     }
     writeln!(
         output,
-        "TOTAL {stripes} clean {clean} bad {bad} torn {torn}"
+        "TOTAL {stripes} clean {clean} bad {bad} unchecked {unchecked} torn {torn}"
     )?;
     output.flush()
 }

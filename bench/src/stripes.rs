@@ -14,6 +14,7 @@ pub const VOLUME: u8 = 7;
 pub enum Verdict {
     Clean,
     Bad { member: usize, count: usize },
+    Unchecked { member: usize, count: usize },
     Torn { place: usize },
 }
 
@@ -24,6 +25,7 @@ impl Verdict {
             Verdict::Clean => 0,
             Verdict::Bad { member, count } => 1 << 32 | (member as u64) << 16 | count as u64,
             Verdict::Torn { place } => 2 << 32 | place as u64,
+            Verdict::Unchecked { member, count } => 3 << 32 | (member as u64) << 16 | count as u64,
         }
     }
 }
@@ -42,10 +44,10 @@ pub fn seal(bytes: &mut [u8], random: &mut Random) {
     }
 }
 
-/// Damages a stripe, or not: a bit of it, two blocks changed about, a block written anew without its parity, or all of it.
+/// Damages a stripe, or not: a bit of it, two blocks changed about, a block written anew without its parity, one marked as not to be checked, or all of it.
 pub fn damage(stripe: u64, bytes: &mut [u8], random: &mut Random) {
     let member = random.below(MEMBERS);
-    match random.below(5) {
+    match random.below(6) {
         0 => {}
         1 => bytes[random.below(STRIPE)] ^= 1 << random.below(8),
         2 => {
@@ -62,6 +64,7 @@ pub fn damage(stripe: u64, bytes: &mut [u8], random: &mut Random) {
             let torn = library::scrub::<Plain>(stripe, bytes);
             assert!(matches!(torn, Verdict::Torn { .. }), "{torn:?}");
         }
+        4 => bytes[member * BLOCK..][514..516].fill(0xFF),
         _ => random.fill(bytes),
     }
 }
