@@ -24,9 +24,14 @@
  *
  * A block is 520 bytes: 512 of data, then its tag, in which every field has its highest byte first: guard (2 bytes,
  * of the data), application tag (2 bytes: 00h for data or 80h for parity, then the volume), reference tag (4 bytes:
- * the block number; for parity, the lowest block number in its stripe). A block is good on a member of a stripe if
- * all three fields are those due there, else it is bad; every value is compared, an application tag of FFFFh too. A
- * stripe in memory is its n blocks in the order of the members, n x 520 bytes.
+ * the block number; for parity, the lowest block number in its stripe). A stripe in memory is its n blocks in the order
+ * of the members, n x 520 bytes.
+ *
+ * Good, bad, unchecked. On a member of a stripe a block is just one of these. It is unchecked if FFFFh stands in its
+ * application tag, whatever its other bytes are: by T10's rule such a block is not to be checked. Else it is good if
+ * all three fields are those due there, and bad if one is not. Nobody vouches for the data of an unchecked block: they
+ * can be read and replaced, but no call makes other data from them. No call sets the mark: write the two bytes to do
+ * so. A rebuild of the block takes it away. A drive that was wiped with FFh reads as unchecked throughout.
  *
  * Refusals. A call that can be refused says so by number, 0 where it is done. It makes its tests in the order in
  * which its numbers are listed, and the first that fails decides. A refused call leaves every buffer as it was
@@ -40,7 +45,7 @@
  *   6  a buffer has not the length that its call asks for
  *   7  a piece is longer than what its member still lacks of a block
  *   8  a member has not given all its 520 bytes
- *   9  the blocks that the call needs are not all good
+ *   9  the blocks that the call needs are not all good: one is bad or unchecked
  */
 #ifndef IRUMBOLAI_H
 #define IRUMBOLAI_H
@@ -122,9 +127,9 @@ struct irumbolai_owner irumbolai_owner(size_t members, uint64_t stripes, uint8_t
                                        size_t member);
 
 /*
- * Checks a block against the tag due on a member of a stripe. `field` is 0 if the block is good; else it names the
- * first wrong field (1 guard, 2 application tag, 3 reference tag), with the value found in the block and the value
- * expected, which are both 0 for a good block.
+ * Checks a block against the tag due on a member of a stripe. `field` is 0 if the block is good, 4 if it is unchecked,
+ * and `found` and `expected` are 0 then. If it is bad, `field` names the first wrong field (1 guard, 2 application tag,
+ * 3 reference tag), `found` is its value in the block and `expected` the value due.
  *
  *   lent      block: 520 bytes, read
  *   refusals  1, 2, 3, 5, 6
@@ -149,25 +154,29 @@ uint32_t irumbolai_seal(size_t members, uint64_t stripes, uint8_t volume, uint64
                         size_t data_length, uint8_t *bytes, size_t length);
 
 /*
- * Reads the data of a block out of its stripe. If the block is good, `rebuilt` is 0 and its data come out, whatever the
- * other members hold. If it is bad and all others are good, `rebuilt` is 1 and the exclusive-or of the others' data
- * comes out: the lost data, if parity was right before the loss; no check can tell afterwards. If it is bad and
- * another one is bad too, the refusal is 9.
+ * Reads the data of a block out of its stripe. `kind` says what comes out:
+ *
+ *   0  stored: the block is good, and its data come out, whatever the other members hold
+ *   1  rebuilt: the block is bad and all others are good, and the exclusive-or of the others' data comes out: the lost
+ *      data, if parity was right before the loss; no check can tell afterwards
+ *   2  unchecked: the block is unchecked, and its data come out as they stand, whatever the other members hold
+ *
+ * If the block is bad and another one is bad or unchecked, the refusal is 9.
  *
  *   lent      bytes: the stripe, n x 520 bytes, read; out: 512 bytes, every byte written
  *   refusals  1, 2, 3, 6, 9
  */
 struct irumbolai_read {
     uint32_t refusal;
-    uint32_t rebuilt;
+    uint32_t kind;
 };
 struct irumbolai_read irumbolai_read(size_t members, uint64_t stripes, uint8_t volume, uint64_t block,
                                      const uint8_t *bytes, size_t length, uint8_t *out, size_t out_length);
 
 /*
- * Makes the block of a member from the others, whatever stood there: the exclusive-or of their data, and the tag due
- * there. The others must all be good, else the refusal is 9. As for a read, the data are the lost ones if parity was
- * right before the loss. Gives the refusal.
+ * Makes the block of a member from the others, whatever stood there, good, bad or unchecked: the exclusive-or of their
+ * data, and the tag due there. The others must all be good, else the refusal is 9. As for a read, the data are the lost
+ * ones if parity was right before the loss. Gives the refusal.
  *
  *   lent      bytes: the stripe, n x 520 bytes, read; of them the member's 520 bytes, written
  *   refusals  1, 2, 3, 5, 6, 9
@@ -177,7 +186,8 @@ uint32_t irumbolai_rebuild(size_t members, uint64_t stripes, uint8_t volume, uin
 
 /*
  * Puts new data into a block and brings the parity of its stripe along. Both blocks must be good, else the refusal is
- * 9; the other members are not looked at. A clean stripe stays clean, a torn one torn. Gives the refusal.
+ * 9, also where one is unchecked; the other members are not looked at. A clean stripe stays clean, a torn one torn.
+ * Gives the refusal.
  *
  *   lent      data: 512 bytes, read; bytes: the stripe, n x 520 bytes, of which the 520 of the block and the 520 of
  *             the parity are read and written
@@ -187,10 +197,14 @@ uint32_t irumbolai_update(size_t members, uint64_t stripes, uint8_t volume, uint
                           size_t data_length, uint8_t *bytes, size_t length);
 
 /*
- * The full scrub of a stripe. `kind` is 0 if it is clean: every block is good and the data of all members combine to
- * zero by exclusive-or. It is 1 if blocks are bad: `first` is the lowest such member, `count` how many they are. It
- * is 2 if all blocks are good and the stripe is torn: `first` is the first byte, 0 to 511, at which the data do not
- * combine to zero, and `count` is 0.
+ * The full scrub of a stripe. `kind` is the first of these that fits, in this order:
+ *
+ *   1  bad: blocks are bad; `first` is the lowest member with one, `count` how many they are, unchecked ones left out
+ *   3  unchecked: blocks are unchecked, and none is bad; `first` is the lowest member with one, `count` how many they
+ *      are. Whether the stripe is torn is not said
+ *   2  torn: all blocks are good, but the data of all members do not combine to zero by exclusive-or; `first` is the
+ *      first byte, 0 to 511, at which they do not, and `count` is 0
+ *   0  clean: all blocks are good, and the data combine to zero; `first` and `count` are 0
  *
  *   lent      bytes: the stripe, n x 520 bytes, read
  *   refusals  1, 2, 3, 6
@@ -206,9 +220,10 @@ struct irumbolai_verdict irumbolai_scrub(size_t members, uint64_t stripes, uint8
 
 /*
  * The quick scrub: the guards stored in the blocks of a stripe, one a member, without the data. `combination` is
- * their exclusive-or, and `differs` is 1 if it is not zero. Where no block is bad, the guards of a clean stripe do
- * not differ. Those of a torn one do if what its data combine to has all its one bits within sixteen successive bits,
- * each byte's highest bit first; other torn stripes can go unseen.
+ * their exclusive-or, and `differs` is 1 if it is not zero. The guards of a clean stripe do not differ. Those of a torn
+ * one do if what its data combine to has all its one bits within sixteen successive bits, each byte's highest bit
+ * first; other torn stripes can go unseen. Of a stripe with bad or unchecked blocks it tells nothing: it takes their
+ * guards as they stand.
  *
  *   lent      guards: `count` numbers, each made from its two bytes in the tag, the first the higher; read
  *   refusals  1

@@ -60,8 +60,10 @@ static void show_verdict(const char *name, struct irumbolai_verdict verdict)
         printf("clean\n");
     else if (verdict.kind == 1)
         printf("bad, lowest member %" PRIu32 ", %" PRIu32 " in all\n", verdict.first, verdict.count);
-    else
+    else if (verdict.kind == 2)
         printf("torn, first at byte %" PRIu32 "\n", verdict.first);
+    else
+        printf("unchecked, lowest member %" PRIu32 ", %" PRIu32 " in all\n", verdict.first, verdict.count);
 }
 
 static bool same(struct irumbolai_verdict a, struct irumbolai_verdict b)
@@ -113,6 +115,8 @@ static void show_member(const struct stripe *stripe, size_t member)
         show_refusal(check.refusal);
     else if (check.field == 0)
         printf("good\n");
+    else if (check.field == 4)
+        printf("unchecked\n");
     else
         printf("bad, %s found %0*" PRIX32 ", expected %0*" PRIX32 "\n", fields[check.field], digits[check.field],
                check.found, digits[check.field], check.expected);

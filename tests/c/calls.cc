@@ -164,6 +164,19 @@ static void checks()
     DUE(checked.field, 3);
     DUE(checked.found, 0);
     DUE(checked.expected, 1);
+    block[514] = block[515] = 0xFF;
+    for (size_t member = 0; member < 3; member++) {
+        checked = check(three, 0, member, block);
+        DUE(checked.refusal, 0);
+        DUE(checked.field, 4);
+        DUE(checked.found, 0);
+        DUE(checked.expected, 0);
+    }
+    block[515] = 0xFE;
+    checked = check(three, 0, 1, block);
+    DUE(checked.field, 2);
+    DUE(checked.found, 0xFFFE);
+    DUE(checked.expected, 7);
     block.pop_back();
     DUE(check(three, 0, 1, block).refusal, 6);
 }
@@ -178,12 +191,12 @@ static void jobs()
 
     struct irumbolai_read read = read_block(three, 1, stripe, out);
     DUE(read.refusal, 0);
-    DUE(read.rebuilt, 0);
+    DUE(read.kind, 0);
     DUE(out == ending({2}), true);
     stripe[520] ^= 0x10;
     read = read_block(three, 0, stripe, out);
     DUE(read.refusal, 0);
-    DUE(read.rebuilt, 1);
+    DUE(read.kind, 1);
     DUE(out == ending({1}), true);
     DUE(rebuild(three, 0, 0, stripe), 9);
     DUE(rebuild(three, 0, 1, stripe), 0);
@@ -193,6 +206,36 @@ static void jobs()
     DUE(update(three, 0, zeros, stripe), 0);
     DUE(stripe[512] << 8 | stripe[513], 0x9CD9);
     DUE(stripe[520 + 512] << 8 | stripe[520 + 513], 0);
+}
+
+// The block with data ending in 01 marked as not to be checked.
+static Bytes marked(Bytes stripe)
+{
+    stripe[520 + 514] = stripe[520 + 515] = 0xFF;
+    return stripe;
+}
+
+static void unchecked()
+{
+    Bytes stripe = marked(sealed()), out(512, 0xFF);
+    stripe[520] ^= 0x10;
+    struct irumbolai_read read = read_block(three, 0, stripe, out);
+    DUE(read.refusal, 0);
+    DUE(read.kind, 2);
+    DUE(out == Bytes(stripe.begin() + 520, stripe.begin() + 520 + 512), true);
+    due_verdict(scrub(three, 0, stripe), 0, 3, 1, 1);
+
+    Bytes before(stripe), zeros(512);
+    DUE(update(three, 0, zeros, stripe), 9);
+    DUE(rebuild(three, 0, 2, stripe), 9);
+    DUE(stripe == before, true);
+    DUE(rebuild(three, 0, 1, stripe), 0);
+    DUE(stripe == sealed(), true);
+
+    stripe = marked(stripe);
+    stripe[2 * 520] ^= 1;
+    due_verdict(scrub(three, 0, stripe), 0, 1, 2, 1);
+    DUE(read_block(three, 1, stripe, out).refusal, 9);
 }
 
 static void scrubs()
@@ -269,11 +312,14 @@ int main()
     places();
     checks();
     jobs();
+    unchecked();
     scrubs();
     states();
     due_verdict(scanned(sealed()), 0, 0, 0, 0);
     due_verdict(scanned(torn({0x01, 0x8B, 0xB6}, 0x8B, 0xB7)), 0, 2, 509, 0);
     due_verdict(scanned(torn({0x01, 0x8B, 0xB6}, 0x8B, 0xB6)), 0, 1, 0, 1);
+    due_verdict(scanned(marked(torn({0x01, 0x8B, 0xB6}, 0x8B, 0xB7))), 0, 3, 1, 1);
+    due_verdict(scanned(marked(torn({0x01, 0x8B, 0xB6}, 0x8B, 0xB6))), 0, 1, 0, 1);
     std::printf("every call from C++, %d values as due\n", compared);
     return 0;
 }

@@ -6,7 +6,7 @@ use model::join;
 use model::layout::{Array, Owner, Place};
 use model::report;
 use model::scan::History;
-use model::stripe::{self, BLOCK, Checked, DATA, Verdict};
+use model::stripe::{self, BLOCK, Checked, DATA, Source, Verdict};
 use std::fmt::Debug;
 
 /// Figures that were right, or the first that was not.
@@ -155,7 +155,7 @@ impl Figures {
         self.due(
             "report",
             &report::report(&[&header[..], &sealed()].concat())[..],
-            "SCRUB v1 members 3 stripes 1\n0 CLEAN\nTOTAL 1 clean 1 bad 0 torn 0\n",
+            "SCRUB v1 members 3 stripes 1\n0 CLEAN\nTOTAL 1 clean 1 bad 0 unchecked 0 torn 0\n",
         )
     }
 
@@ -189,6 +189,51 @@ impl Figures {
             )?;
         }
         Ok(())
+    }
+
+    /// The sealed stripe with block 0 marked as not to be checked, its data ending in FEh.
+    fn marked_stripe(&mut self) -> Result<(), String> {
+        let three = array(3, 1);
+        let mut bytes = sealed();
+        let block = &mut bytes[stripe::span(1)];
+        block[DATA - 1] = 0xFE;
+        block[514..516].fill(0xFF);
+        let said = stripe::check(&three, 0, 1, &bytes[stripe::span(1)]);
+        self.due("check, marked", said, Ok(Checked::Unchecked))?;
+        let unchecked = Verdict::Unchecked {
+            member: 1,
+            count: 1,
+        };
+        let scrubbed = stripe::scrub(&three, 0, &bytes);
+        self.due("scrub, marked", scrubbed, Ok(unchecked))?;
+        let read = stripe::read(&three, 0, &bytes, &[0; DATA]).expect("it is copied");
+        self.due("read, marked", read.source, Source::Unchecked)?;
+        self.due("its last byte", read.data[DATA - 1], 0xFE)?;
+        let updated = stripe::update(&three, 0, &[0; DATA], &bytes);
+        self.due("update, marked", updated, Err(9))?;
+        let updated = stripe::update(&three, 1, &[0; DATA], &bytes);
+        self.due("update beside", updated.map(|_| ()), Ok(()))?;
+        for member in [0, 2] {
+            let rebuilt = stripe::rebuild(&three, 0, member, &bytes);
+            self.due("rebuild from it", rebuilt, Err(9))?;
+        }
+        let rebuilt = stripe::rebuild(&three, 0, 1, &bytes);
+        self.due("rebuild, marked", rebuilt, Ok(sealed()))?;
+        let image = [&report::header(&three)[..], &bytes].concat();
+        self.due(
+            "report, marked",
+            &report::report(&image)[..],
+            "SCRUB v1 members 3 stripes 1\n0 UNCHECKED 1 1\nTOTAL 1 clean 0 bad 0 unchecked 1 torn 0\n",
+        )?;
+        bytes[stripe::span(2)][0] ^= 1;
+        let bad = Verdict::Bad {
+            member: 2,
+            count: 1,
+        };
+        let scrubbed = stripe::scrub(&three, 0, &bytes);
+        self.due("scrub, another bad", scrubbed, Ok(bad))?;
+        let read = stripe::read(&three, 1, &bytes, &[0; DATA]);
+        self.due("read of that one", read, Err(9))
     }
 
     fn pieces(&mut self) -> Result<(), String> {
@@ -239,6 +284,7 @@ pub fn check(_: &mut Random) -> Result<String, String> {
     figures.sealed_stripe()?;
     figures.report()?;
     figures.torn_stripes()?;
+    figures.marked_stripe()?;
     figures.pieces()?;
     Ok(format!("{} right in the model itself", figures.right))
 }

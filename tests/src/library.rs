@@ -20,7 +20,7 @@ pub struct Owner {
     pub block: u64,
 }
 
-/// Field 0 is good, 1 the guard, 2 the application tag, 3 the reference tag.
+/// Field 0 is good, 1 the guard, 2 the application tag, 3 the reference tag, 4 unchecked.
 #[repr(C)]
 #[derive(Clone, Copy, Debug, PartialEq)]
 pub struct Check {
@@ -30,14 +30,15 @@ pub struct Check {
     pub expected: u32,
 }
 
+/// Kind 0 is stored, 1 rebuilt, 2 unchecked.
 #[repr(C)]
 #[derive(Clone, Copy, Debug, PartialEq)]
 pub struct Read {
     pub refusal: u32,
-    pub rebuilt: u32,
+    pub kind: u32,
 }
 
-/// Kind 0 is clean, 1 bad (`first` is a member), 2 torn (`first` is a place).
+/// Kind 0 is clean, 1 bad and 3 unchecked (`first` is a member), 2 torn (`first` is a place).
 #[repr(C)]
 #[derive(Clone, Copy, Debug, PartialEq)]
 pub struct Verdict {

@@ -25,6 +25,7 @@ const PARTS: &[(&str, Comparison)] = &[
     ("stripe", compare::stripe::compare),
     ("scrub", compare::scrub::compare),
     ("scan", compare::scan::compare),
+    ("standing", compare::standing::compare),
     ("images", compare::images::compare),
     ("large image", compare::large::compare),
 ];

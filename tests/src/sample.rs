@@ -1,8 +1,8 @@
-//! Writes a small image to standard output: five members and six stripes, of which three are damaged.
+//! Writes a small image to standard output: five members and six stripes, of which two are clean.
 
 use model::layout::Array;
 use model::report;
-use model::stripe::{self, BLOCK, DATA};
+use model::stripe::{self, APPLICATION, BLOCK, DATA, UNCHECKED};
 use std::io::{self, Write};
 
 const ARRAY: Array = Array {
@@ -24,11 +24,17 @@ fn sealed(number: u64) -> Vec<u8> {
 fn damage(number: u64, bytes: &mut [u8]) {
     match number {
         // A bit of member 3 has changed.
-        2 => bytes[stripe::span(3)][100] ^= 1,
+        1 => bytes[stripe::span(3)][100] ^= 1,
         // Members 0 and 1 hold each other's blocks.
-        3 => {
+        2 => {
             let (first, others) = bytes.split_at_mut(BLOCK);
             first.swap_with_slice(&mut others[..BLOCK]);
+        }
+        // Members 1 and 4 are marked as not to be checked.
+        3 => {
+            for member in [1, 4] {
+                bytes[stripe::span(member)][APPLICATION].copy_from_slice(&UNCHECKED);
+            }
         }
         // Member 2 was written, data and tag, and the parity was not.
         4 => {

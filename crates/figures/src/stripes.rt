@@ -1,4 +1,4 @@
-// Stripes of the bench table: one sealed and updated, and two torn ones.
+// Stripes of the bench table: one sealed, updated and then marked, and two torn ones.
 use crate::text::four_digits;
 use crate::text::named;
 use crate::text::two_digits;
@@ -15,7 +15,7 @@ fn three() -> Array {
     layout::array_of(3, 1, 7)
 }
 
-// Data zero but for the last bytes 01 and 02; then block 0 updated to zeros.
+// Data zero but for the last bytes 01 and 02; then block 0 updated to zeros; then its application tag set to FFFFh.
 pub fn sealed() {
     let mut content = [0u8; 1024];
     content[511] = 1;
@@ -27,6 +27,10 @@ pub fn sealed() {
     io::write_all(STDOUT_FILENO, b"block 0 updated, tag of      is\n");
     let zeros = [0u8; 512];
     stripe::update(three(), 0, &zeros, &mut bytes);
+    shown(&bytes);
+    bytes[1034] = 0xFF;
+    bytes[1035] = 0xFF;
+    io::write_all(STDOUT_FILENO, b"block 0 marked, tag of       is\n");
     shown(&bytes);
 }
 
@@ -97,6 +101,7 @@ fn reading(bytes: &[u8]) {
         Reading::Refused(number) => named(b"refusal ", number as u64),
         Reading::Stored => named(b"stored, last byte ", last),
         Reading::Rebuilt => named(b"rebuilt, last byte ", last),
+        Reading::Unchecked => named(b"unchecked, last byte ", last),
     }
     io::write_all(STDOUT_FILENO, b"\n");
 }
@@ -126,6 +131,10 @@ fn finding(found: Verdict) {
             named(b" count ", count as u64);
         }
         Verdict::Torn { place } => named(b"torn, place ", place as u64),
+        Verdict::Unchecked { member, count } => {
+            named(b"unchecked, member ", member as u64);
+            named(b" count ", count as u64);
+        }
     }
 }
 

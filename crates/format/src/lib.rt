@@ -6,7 +6,7 @@ pub use positions::data_room;
 pub use positions::part_at;
 pub use positions::tag_place;
 ghost use mathlib.Core.Path.{_≡_};
-ghost use Prim.Native.Nat.{_*_};
+ghost use Prim.Native.Nat.{_*_, _/_};
 ghost use Rattle.format.specs.Formats.{guard, spare, guardsOf};
 ghost use Rattle.format.specs.Methods.{formatOf};
 
@@ -57,6 +57,13 @@ pub fn scaled(method: u8, application: u16) -> u64
     ensures { λ r. ⌜ r ≡ application * formatOf method .scale ⌝ }
 {
     application as u64
+}
+
+// The two bytes of an application tag, from the number that its field holds.
+pub fn unscaled(method: u8, application: u64) -> u64
+    ensures { λ r. ⌜ r ≡ application / formatOf method .scale ⌝ }
+{
+    application
 }
 
 // The guard of a block of zeros for an odd count, 0 for an even one.

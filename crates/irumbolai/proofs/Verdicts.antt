@@ -1,12 +1,12 @@
 -- A verdict's numbers fit their fields: a member, a count of members and a place in a block's data are at most the most data of a block.
 -- Assumes nothing.
 use mathlib.Core.Path.{_≡_, refl, sym, ap, subst}
-use mathlib.Core.Bool.{Bool, true, false, not, cond}
+use mathlib.Core.Bool.{Bool, true, false, not}
 use mathlib.Core.List.{List, [], _∷_, map}
 use Prim.Native.Nat.{ℕ, zero, suc, _≤_, zero-le, suc-le-suc}
 use native.Mathlib.Omega.{arith}
 use borrow.Author.Tests.{eqb-true}
-use lib.Dec.{ltb, eqb}
+use lib.Dec.{eqb}
 use lib.ListN.{length, getD, take}
 use Rattle.xor.proofs.Combination.{length-combination}
 use Rattle.format.specs.Formats.{mostData}
@@ -15,13 +15,13 @@ use Rattle.layout.specs.declared.Array.{Array}
 use Rattle.layout.proofs.Answers.{refuse-none}
 use Rattle.layout.proofs.Ranges.{stripe-sound}
 use Rattle.tag.specs.Blocks.{formatAt, dataOf}
-use Rattle.verdict.specs.Verdicts.{count, lowest, judgedBy, judged}
+use Rattle.verdict.specs.Verdicts.{count, lowest, standingAs, judged}
 use Rattle.verdict.proofs.Flags.{count-most}
-use Rattle.verdict.proofs.Verdicts.{length-nonzero, judged-refused}
+use Rattle.verdict.proofs.Verdicts.{Judged, of-bad, of-unchecked, of-torn, of-clean, judged-case, length-standingAs, length-nonzero, judged-refused}
 use Rattle.stripe.specs.Tables.{table, all}
 use Rattle.stripe.specs.Stripes.{blockOf}
 use Rattle.stripe.specs.Formats.{Summary, summaryOf}
-use Rattle.stripe.specs.Verdicts.{badMembers, tornPlaces, verdict, scrubRefusal, scrubNumbers}
+use Rattle.stripe.specs.Verdicts.{standingMembers, tornPlaces, verdict, scrubRefusal, scrubNumbers}
 use Rattle.stripe.proofs.Tables.{length-table}
 use Rattle.stripe.proofs.Scrubs.{scrub-sound}
 use Rattle.scan.specs.declared.Scan.{Scan}
@@ -38,18 +38,24 @@ lowest-most [] = zero-le
 lowest-most (true ∷ flags) = zero-le
 lowest-most (false ∷ flags) = suc-le-suc (lowest-most flags)
 
-judged-small : (bads torn : List Bool) → length bads ≤ mostData → length torn ≤ mostData → Small (1 ∷ 0 ∷ judged bads torn)
-unfolding judged judgedBy
-judged-small bads torn b t = by-tests (ltb 0 (count bads)) (ltb 0 (count torn))
+judged-small : (members : List ℕ) (torn : List Bool) → length members ≤ mostData → length torn ≤ mostData → Small (1 ∷ 0 ∷ judged members torn)
+judged-small members torn b t = by-case (judged-case members torn)
   where
-    by-tests : (f g : Bool) → Small (1 ∷ 0 ∷ cond f (1 ∷ lowest bads ∷ count bads ∷ []) (cond g (2 ∷ lowest torn ∷ 0 ∷ []) (0 ∷ 0 ∷ 0 ∷ [])))
-    by-tests true g = record { first = omega (arith, lowest-most bads); count = omega (arith, count-most bads) }
-    by-tests false true = record { first = omega (arith, lowest-most torn); count = zero-le }
-    by-tests false false = record { first = zero-le; count = zero-le }
+    few-lowest : (k : ℕ) → lowest (standingAs k members) ≤ mostData
+    few-lowest k = omega (arith, lowest-most (standingAs k members), length-standingAs k members)
 
-length-bad : (a : Array) (stripe : ℕ) (s : Summary) → length (badMembers a stripe s) ≡ a .members
-unfolding badMembers
-length-bad a stripe s = length-table (a .members) _
+    few-count : (k : ℕ) → count (standingAs k members) ≤ mostData
+    few-count k = omega (arith, count-most (standingAs k members), length-standingAs k members)
+
+    by-case : {l : List ℕ} → Judged members torn l → Small (1 ∷ 0 ∷ l)
+    by-case (of-bad p) = record { first = few-lowest 1; count = few-count 1 }
+    by-case (of-unchecked p q) = record { first = few-lowest 2; count = few-count 2 }
+    by-case (of-torn p q r) = record { first = omega (arith, lowest-most torn); count = zero-le }
+    by-case (of-clean p q r) = record { first = zero-le; count = zero-le }
+
+length-standing : (a : Array) (stripe : ℕ) (s : Summary) → length (standingMembers a stripe s) ≡ a .members
+unfolding standingMembers
+length-standing a stripe s = length-table (a .members) _
 
 length-torn : (s : Summary) → length (tornPlaces s) ≡ length (s .combined)
 unfolding tornPlaces
@@ -59,10 +65,10 @@ length-torn s = length-nonzero (s .combined)
 verdict-small : (number : ℕ) (a : Array) (stripe : ℕ) (s : Summary) → (number ≡ 0 → (a .members ≤ 16) × (length (s .combined) ≡ formatAt a .dataLength))
     → Small (answer number (verdict a stripe s))
 verdict-small zero a stripe s h =
-    judged-small (badMembers a stripe s) (tornPlaces s) (omega (arith, length-bad a stripe s, h refl .0))
+    judged-small (standingMembers a stripe s) (tornPlaces s) (omega (arith, length-standing a stripe s, h refl .0))
     (omega (arith, length-torn s, h refl .1, formatAt a .data-most))
 verdict-small (suc k) a stripe s h =
-    let e = ap (λ (l : List ℕ). 0 ∷ suc k ∷ l) (judged-refused (badMembers a stripe s) (tornPlaces s)) in
+    let e = ap (λ (l : List ℕ). 0 ∷ suc k ∷ l) (judged-refused (standingMembers a stripe s) (tornPlaces s)) in
     subst Small (sym e) (record { first = zero-le; count = zero-le })
 
 pub scrub-small : (a : Array) (stripe : ℕ) (bytes : List ℕ) → Small (scrubNumbers a stripe bytes)

@@ -45,7 +45,7 @@ abbrev pub checkFields : CheckAnswer → List ℕ
 checkFields r = r .refusal ∷ r .field ∷ r .found ∷ r .expected ∷ []
 
 abbrev pub readFields : ReadAnswer → List ℕ
-readFields r = r .refusal ∷ r .rebuilt ∷ []
+readFields r = r .refusal ∷ r .kind ∷ []
 
 abbrev pub verdictFields : VerdictAnswer → List ℕ
 verdictFields r = r .refusal ∷ r .kind ∷ r .first ∷ r .count ∷ []

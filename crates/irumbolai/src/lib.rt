@@ -48,14 +48,14 @@ pub struct CheckAnswer {
     pub expected: u32,
 }
 
-// What a verified read says.
+// What a verified read says: kind 0 stored, 1 rebuilt, 2 unchecked.
 #[repr(C)]
 pub struct ReadAnswer {
     pub refusal: u32,
-    pub rebuilt: u32,
+    pub kind: u32,
 }
 
-// What a scrub says: kind 0 clean, 1 bad (the lowest bad member and their count), 2 torn (the first place).
+// What a scrub says: kind 0 clean, 1 bad (the lowest bad member and their count), 2 torn (the first place), 3 unchecked (as bad).
 #[repr(C)]
 pub struct VerdictAnswer {
     pub refusal: u32,
@@ -127,6 +127,16 @@ fn found_answer(verdict: Verdict) -> VerdictAnswer
             VerdictAnswer {
                 refusal: 0,
                 kind: 1,
+                first,
+                count,
+            }
+        }
+        Verdict::Unchecked { member, count } => {
+            let first = member as u32;
+            let count = count as u32;
+            VerdictAnswer {
+                refusal: 0,
+                kind: 3,
                 first,
                 count,
             }

@@ -63,6 +63,12 @@ fn check_answer(checked: Checked) -> CheckAnswer
                 expected,
             }
         }
+        Checked::Unchecked => CheckAnswer {
+            refusal: 0,
+            field: 4,
+            found: 0,
+            expected: 0,
+        },
     }
 }
 
@@ -106,18 +112,19 @@ fn read_answer(reading: Reading) -> ReadAnswer
     match reading {
         Reading::Refused(number) => {
             let refusal = number as u32;
-            ReadAnswer {
-                refusal,
-                rebuilt: 0,
-            }
+            ReadAnswer { refusal, kind: 0 }
         }
         Reading::Stored => ReadAnswer {
             refusal: 0,
-            rebuilt: 0,
+            kind: 0,
         },
         Reading::Rebuilt => ReadAnswer {
             refusal: 0,
-            rebuilt: 1,
+            kind: 1,
+        },
+        Reading::Unchecked => ReadAnswer {
+            refusal: 0,
+            kind: 2,
         },
     }
 }

@@ -6,7 +6,7 @@ use Prim.Native.Nat.{ℕ}
 use Rattle.layout.specs.Arrays.{arrayOf, arrayRefusal}
 use Rattle.layout.specs.declared.Array.{Array}
 use Rattle.tag.specs.Numbers.{numberOf}
-use Rattle.lines.specs.Text.{decimal, scrubWord, membersWord, stripesWord, cleanWord, badWord, tornWord, totalWord, cleanCount, badCount, tornCount, refusedWord}
+use Rattle.lines.specs.Text.{decimal, scrubWord, membersWord, stripesWord, cleanWord, badWord, uncheckedWord, tornWord, totalWord, cleanCount, badCount, uncheckedCount, tornCount, refusedWord}
 use Rattle.lines.specs.Lines.{firstLine, stripeLine, totalLine, refusedLine}
 use Rattle.lines.specs.Headers.{formOf, formSize, arrayIn, headerRefusal}
 
@@ -31,16 +31,21 @@ pub bad-line-reads : stripeLine 12 (1 ∷ 3 ∷ 1 ∷ []) ≡ 0x31 ∷ 0x32 ∷ 
 unfolding stripeLine badWord decimal
 bad-line-reads = refl
 
+-- "12 UNCHECKED 3 1"
+pub unchecked-line-reads : stripeLine 12 (3 ∷ 3 ∷ 1 ∷ []) ≡ 0x31 ∷ 0x32 ∷ 0x20 ∷ 0x55 ∷ 0x4E ∷ 0x43 ∷ 0x48 ∷ 0x45 ∷ 0x43 ∷ 0x4B ∷ 0x45 ∷ 0x44 ∷ 0x20 ∷ 0x33 ∷ 0x20 ∷ 0x31 ∷ 0x0A ∷ []
+unfolding stripeLine uncheckedWord decimal
+unchecked-line-reads = refl
+
 -- "12 TORN 509"
 pub torn-line-reads : stripeLine 12 (2 ∷ 509 ∷ 0 ∷ []) ≡ 0x31 ∷ 0x32 ∷ 0x20 ∷ 0x54 ∷ 0x4F ∷ 0x52 ∷ 0x4E ∷ 0x20 ∷ 0x35 ∷ 0x30 ∷ 0x39 ∷ 0x0A ∷ []
 unfolding stripeLine tornWord decimal
 torn-line-reads = refl
 
--- "TOTAL 1000 clean 994 bad 2 torn 4"
-pub total-line-reads : totalLine fiveByThousand (record { clean = 994; bad = 2; torn = 4 }) ≡ 0x54 ∷ 0x4F ∷ 0x54 ∷ 0x41 ∷ 0x4C ∷ 0x20 ∷ 0x31
-    ∷ 0x30 ∷ 0x30 ∷ 0x30 ∷ 0x20 ∷ 0x63 ∷ 0x6C ∷ 0x65 ∷ 0x61 ∷ 0x6E ∷ 0x20 ∷ 0x39 ∷ 0x39 ∷ 0x34 ∷ 0x20 ∷ 0x62 ∷ 0x61 ∷ 0x64 ∷ 0x20 ∷ 0x32 ∷ 0x20
-    ∷ 0x74 ∷ 0x6F ∷ 0x72 ∷ 0x6E ∷ 0x20 ∷ 0x34 ∷ 0x0A ∷ []
-unfolding totalLine totalWord cleanCount badCount tornCount decimal
+-- "TOTAL 1000 clean 991 bad 2 unchecked 3 torn 4"
+pub total-line-reads : totalLine fiveByThousand (record { clean = 991; bad = 2; unchecked = 3; torn = 4 }) ≡ 0x54 ∷ 0x4F ∷ 0x54 ∷ 0x41 ∷ 0x4C ∷ 0x20 ∷ 0x31 ∷ 0x30 ∷ 0x30 ∷ 0x30 ∷ 0x20 ∷ 0x63 ∷ 0x6C ∷ 0x65 ∷ 0x61 ∷ 0x6E ∷ 0x20 ∷ 0x39
+    ∷ 0x39 ∷ 0x31 ∷ 0x20 ∷ 0x62 ∷ 0x61 ∷ 0x64 ∷ 0x20 ∷ 0x32 ∷ 0x20 ∷ 0x75 ∷ 0x6E ∷ 0x63 ∷ 0x68 ∷ 0x65 ∷ 0x63 ∷ 0x6B ∷ 0x65 ∷ 0x64
+    ∷ 0x20 ∷ 0x33 ∷ 0x20 ∷ 0x74 ∷ 0x6F ∷ 0x72 ∷ 0x6E ∷ 0x20 ∷ 0x34 ∷ 0x0A ∷ []
+unfolding totalLine totalWord cleanCount badCount uncheckedCount tornCount decimal
 total-line-reads = refl
 
 -- "REFUSED 10"

@@ -11,11 +11,11 @@ ghost use mathlib.Core.List.{_++_};
 ghost use Prim.Native.Nat.{_+_, _≤_};
 ghost use lib.ListN.{length};
 ghost use Rattle.verdict.specs.Verdicts.{verdictNumbers};
-ghost use Rattle.lines.specs.Text.{Written, decimal, scrubWord};
+ghost use Rattle.lines.specs.Text.{Written, decimal, blank, scrubWord};
 ghost use Rattle.lines.specs.Lines.{fitting, firstLine, stripeLine, totalLine, refusedLine};
 
 // Bytes of room that any line has enough of; with less a line is not written, and 0 is answered.
-pub const ROOM: usize = 128;
+pub const ROOM: usize = 160;
 
 // Copies `bytes` into `out` from a place on, and answers the place behind them.
 fn put(out: &mut [u8], at: usize, bytes: &[u8]) -> usize
@@ -45,6 +45,16 @@ fn word_and_number(out: &mut [u8], at: usize, word: &[u8], n: u64) -> usize
 {
     let place = put(out, at, word);
     number(out, place, n)
+}
+
+// Writes a word and two numbers behind it, a blank between them.
+fn word_and_numbers(out: &mut [u8], at: usize, word: &[u8], first: u64, second: u64) -> usize
+    requires { ⌜ at + length (now word) + 41 ≤ length (now out) ⌝ }
+    ensures { λ r. ⌜ r ≤ at + length (now (word .entry)) + 41 ⌝ }
+    ensures { λ r. ⌜ Written (now (out .entry)) at (now (word .entry) ++ decimal first ++ blank ++ decimal second) (now (out .exit)) r ⌝ }
+{
+    let place = word_and_number(out, at, word, first);
+    word_and_number(out, place, b" ", second)
 }
 
 // The eight bytes that every report begins with, unless its header is refused.
@@ -81,8 +91,11 @@ pub fn stripe_line(out: &mut [u8], stripe: u64, verdict: Verdict) -> usize
     match verdict {
         Verdict::Clean => put(out, at, b" CLEAN\n"),
         Verdict::Bad { member, count } => {
-            let lowest = word_and_number(out, at, b" BAD ", member as u64);
-            let line = word_and_number(out, lowest, b" ", count as u64);
+            let line = word_and_numbers(out, at, b" BAD ", member as u64, count as u64);
+            put(out, line, b"\n")
+        }
+        Verdict::Unchecked { member, count } => {
+            let line = word_and_numbers(out, at, b" UNCHECKED ", member as u64, count as u64);
             put(out, line, b"\n")
         }
         Verdict::Torn { place } => {
@@ -92,9 +105,16 @@ pub fn stripe_line(out: &mut [u8], stripe: u64, verdict: Verdict) -> usize
     }
 }
 
-// The last line: how many stripes there are, and how many of them were clean, bad and torn.
-pub fn total_line(out: &mut [u8], array: Array, clean: u64, bad: u64, torn: u64) -> usize
-    ensures { λ r. ⌜ Written (now (out .entry)) 0 (fitting (length (now (out .entry))) (totalLine array (record { clean = clean; bad = bad; torn = torn }))) (now (out .exit)) r ⌝ }
+// The last line: how many stripes there are, and how many of them were clean, bad, unchecked and torn.
+pub fn total_line(
+    out: &mut [u8],
+    array: Array,
+    clean: u64,
+    bad: u64,
+    unchecked: u64,
+    torn: u64,
+) -> usize
+    ensures { λ r. ⌜ Written (now (out .entry)) 0 (fitting (length (now (out .entry))) (totalLine array (record { clean = clean; bad = bad; unchecked = unchecked; torn = torn }))) (now (out .exit)) r ⌝ }
 {
     if out.len() < ROOM {
         return 0;
@@ -103,7 +123,8 @@ pub fn total_line(out: &mut [u8], array: Array, clean: u64, bad: u64, torn: u64)
     let total = word_and_number(out, 0, b"TOTAL ", stripes);
     let cleans = word_and_number(out, total, b" clean ", clean);
     let bads = word_and_number(out, cleans, b" bad ", bad);
-    let line = word_and_number(out, bads, b" torn ", torn);
+    let uncheckeds = word_and_number(out, bads, b" unchecked ", unchecked);
+    let line = word_and_number(out, uncheckeds, b" torn ", torn);
     put(out, line, b"\n")
 }
 

@@ -61,7 +61,7 @@ module _ (used : ℕ) (r : Report) (w h : List ℕ) (came : headerCame r ≡ h) 
         short = stripe-some (formatAt a) (a .members) (omega (arith, range .few));
         sound = sound;
         tally = refl;
-        counted = record { clean = zero-le; bad = zero-le; torn = zero-le };
+        counted = record { clean = zero-le; bad = zero-le; unchecked = zero-le; torn = zero-le };
         scanned = scan-starts a 0 sound w work;
       }
 

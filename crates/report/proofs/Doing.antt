@@ -13,7 +13,7 @@ use Rattle.layout.specs.declared.Array.{Array}
 use Rattle.scan.specs.declared.Scan.{Scan}
 use Rattle.scan.specs.Scans.{startState, startWork}
 use Rattle.lines.specs.Text.{Written}
-use Rattle.lines.specs.Lines.{firstLine, refusedLine, totalLine}
+use Rattle.lines.specs.Lines.{lineRoom, firstLine, refusedLine, totalLine}
 use Rattle.lines.specs.Headers.{headerRoom, headerSize, arrayIn, headerRefusal}
 use Rattle.lines.proofs.Headers.{array-there}
 use Rattle.lines.proofs.Texts.{line-long}
@@ -126,41 +126,41 @@ module _ (r : Report) (input w o : List ℕ) where
 
   -- feed, with this room for output
   module _ (room : ℕ) where
-    pub fed-without-room : room < 128 → Does (feedStep r input w room) (record { state = r; used = 0; written = 0 }) w o o
+    pub fed-without-room : room < lineRoom → Does (feedStep r input w room) (record { state = r; used = 0; written = 0 }) w o o
     fed-without-room h = does-same (without-room r input w room h) (silent 0 r w o)
 
-    pub fed-without-input : 128 ≤ room → length input ≡ 0 → Does (feedStep r input w room) (record { state = r; used = 0; written = 0 }) w o o
+    pub fed-without-input : lineRoom ≤ room → length input ≡ 0 → Does (feedStep r input w room) (record { state = r; used = 0; written = 0 }) w o o
     fed-without-input h e = does-same (without-input r input w room h e) (silent 0 r w o)
 
-    pub fed-with-both : (a : Fed) (v p : List ℕ) → 128 ≤ room → length input ≢ 0 → Does (stageStep r input w) a v o p
+    pub fed-with-both : (a : Fed) (v p : List ℕ) → lineRoom ≤ room → length input ≢ 0 → Does (stageStep r input w) a v o p
         → Does (feedStep r input w room) a v o p
     unfolding feedStep
-    fed-with-both a v p h e d = rw (le-ltb room 128 h, ne-eqb (length input) 0 e) d
+    fed-with-both a v p h e d = rw (le-ltb room lineRoom h, ne-eqb (length input) 0 e) d
 
 -- ---- close
 
 module _ (r : Report) (room : ℕ) where
-  pub no-room-to-close : room < 128 → closeLine r room ≡ []
+  pub no-room-to-close : room < lineRoom → closeLine r room ≡ []
   unfolding closeLine
-  no-room-to-close h = rw (lt-ltb room 128 h)
+  no-room-to-close h = rw (lt-ltb room lineRoom h)
 
-  module _ (enough : 128 ≤ room) where
+  module _ (enough : lineRoom ≤ room) where
     pub closed-in-header : r .stage ≡ 0 → refusedLine 10 ≡ closeLine r room
     unfolding closeLine
-    closed-in-header e = rw (le-ltb room 128 enough, eq-eqb (r .stage) 0 e)
+    closed-in-header e = rw (le-ltb room lineRoom enough, eq-eqb (r .stage) 0 e)
 
     pub closed-in-stripes : r .stage ≡ 1 → refusedLine 11 ≡ closeLine r room
     unfolding closeLine
-    closed-in-stripes e = rw (le-ltb room 128 enough, ne-eqb (r .stage) 0 (λ z. omega arith), eq-eqb (r .stage) 1 e)
+    closed-in-stripes e = rw (le-ltb room lineRoom enough, ne-eqb (r .stage) 0 (λ z. omega arith), eq-eqb (r .stage) 1 e)
 
     pub closed-behind : r .stage ≡ 2 → totalLine (r .scan .array) (tallyOf r) ≡ closeLine r room
     unfolding closeLine
     closed-behind e =
-        rw (le-ltb room 128 enough, ne-eqb (r .stage) 0 (λ z. omega arith), ne-eqb (r .stage) 1 (λ z. omega arith), eq-eqb (r .stage) 2 e)
+        rw (le-ltb room lineRoom enough, ne-eqb (r .stage) 0 (λ z. omega arith), ne-eqb (r .stage) 1 (λ z. omega arith), eq-eqb (r .stage) 2 e)
 
     pub closed-already : r .stage ≢ 0 → r .stage ≢ 1 → r .stage ≢ 2 → closeLine r room ≡ []
     unfolding closeLine
-    closed-already e f g = rw (le-ltb room 128 enough, ne-eqb (r .stage) 0 e, ne-eqb (r .stage) 1 f, ne-eqb (r .stage) 2 g)
+    closed-already e f g = rw (le-ltb room lineRoom enough, ne-eqb (r .stage) 0 e, ne-eqb (r .stage) 1 f, ne-eqb (r .stage) 2 g)
 
 -- what a line's writing says of close, and what no line does
 pub line-closes : (text line o p : List ℕ) (n : ℕ) → text ≡ line → Written o 0 text p n → (n ≡ length line) × (p ≡ sets o 0 line)

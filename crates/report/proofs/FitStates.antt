@@ -27,6 +27,7 @@ pub record Fit (r : Report) : Type 0 where
   pub stripe : r .scan .stripe ≤ 268435456
   pub clean : r .clean ≤ r .scan .stripe
   pub bad : r .bad ≤ r .scan .stripe
+  pub unchecked : r .unchecked ≤ r .scan .stripe
   pub torn : r .torn ≤ r .scan .stripe
 
 module _ (r : Report) where
@@ -37,7 +38,7 @@ module _ (r : Report) where
   short-test = ltb (r .have) (stripeLength (r .scan .array))
 
   abbrev few-tests : Bool
-  few-tests = leb (r .clean) (r .scan .stripe) && leb (r .bad) (r .scan .stripe) && leb (r .torn) (r .scan .stripe)
+  few-tests = leb (r .clean) (r .scan .stripe) && leb (r .bad) (r .scan .stripe) && leb (r .unchecked) (r .scan .stripe) && leb (r .torn) (r .scan .stripe)
 
   -- the tests, one after the other
   pub out-of-range : stripeRefusal (r .scan .array) (r .scan .stripe) ≢ 0 → stripeFit r ≡ false
@@ -60,8 +61,10 @@ module _ (r : Report) where
   fit-known e =
       let clean-test = leb (r .clean) (r .scan .stripe) in
       let bad-test = leb (r .bad) (r .scan .stripe) in
-      let t = both (sound-test && short-test && clean-test && bad-test) (leb (r .torn) (r .scan .stripe)) e in
-      let b = both (sound-test && short-test && clean-test) bad-test (t .0) in
+      let unchecked-test = leb (r .unchecked) (r .scan .stripe) in
+      let t = both (sound-test && short-test && clean-test && bad-test && unchecked-test) (leb (r .torn) (r .scan .stripe)) e in
+      let u = both (sound-test && short-test && clean-test && bad-test) unchecked-test (t .0) in
+      let b = both (sound-test && short-test && clean-test) bad-test (u .0) in
       let c = both (sound-test && short-test) clean-test (b .0) in
       let s = both sound-test short-test (c .0) in
       let sound = eqb-true (stripeRefusal (r .scan .array) (r .scan .stripe)) 0 (s .0) in
@@ -73,6 +76,7 @@ module _ (r : Report) where
         stripe = omega (arith, range .here, range .array .most);
         clean = leb-true (r .clean) (r .scan .stripe) (c .1);
         bad = leb-true (r .bad) (r .scan .stripe) (b .1);
+        unchecked = leb-true (r .unchecked) (r .scan .stripe) (u .1);
         torn = leb-true (r .torn) (r .scan .stripe) (t .1);
       }
 
@@ -87,11 +91,12 @@ piece-keeps-stripe s m bytes k = go (eqb (pieceRefusal s m (length bytes) k) 0)
 
 -- so the numbers of the state with more bytes stay small
 pub held-small : (r held : Report) (scan : Scan) (m : ℕ) (bytes : List ℕ) (k have : ℕ) → Fit r → scan ≡ pieceState (r .scan) m bytes k
-    → held ≡ holding r (r .header) have scan → held .scan .stripe + (held .clean + held .bad + held .torn) ≤ 4294967296
+    → held ≡ holding r (r .header) have scan → held .scan .stripe + (held .clean + held .bad + held .unchecked + held .torn) ≤ 4294967296
 held-small r held scan m bytes k have f e h =
     let stripe : held .scan .stripe ≡ r .scan .stripe =
     ap (λ (x : Report). x .scan .stripe) h ∙ ap (λ (x : Scan). x .stripe) e ∙ piece-keeps-stripe (r .scan) m bytes k in
     let clean : held .clean ≡ r .clean = ap (λ (x : Report). x .clean) h in
     let bad : held .bad ≡ r .bad = ap (λ (x : Report). x .bad) h in
+    let unchecked : held .unchecked ≡ r .unchecked = ap (λ (x : Report). x .unchecked) h in
     let torn : held .torn ≡ r .torn = ap (λ (x : Report). x .torn) h in
-    omega (arith, stripe, clean, bad, torn, f .stripe, f .clean, f .bad, f .torn)
+    omega (arith, stripe, clean, bad, unchecked, torn, f .stripe, f .clean, f .bad, f .unchecked, f .torn)

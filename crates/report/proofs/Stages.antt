@@ -32,6 +32,7 @@ toSay over bytes = []
 pub record Counted (stripe : ℕ) (t : Tally) : Type 0 where
   pub clean : t .clean ≤ stripe
   pub bad : t .bad ≤ stripe
+  pub unchecked : t .unchecked ≤ stripe
   pub torn : t .torn ≤ stripe
 
 pub record StandsInHeader (h : List ℕ) (r : Report) (w : List ℕ) : Type 0 where

@@ -133,6 +133,7 @@ module _ (a : Array) (stripe : ℕ) (t : Tally) (h : List ℕ) (r : Report) (w :
       let few = q .counted in
       let clean : r .clean ≤ stripe = omega (arith, ap (λ (x : Tally). x .clean) same, few .clean) in
       let bad : r .bad ≤ stripe = omega (arith, ap (λ (x : Tally). x .bad) same, few .bad) in
+      let unchecked : r .unchecked ≤ stripe = omega (arith, ap (λ (x : Tally). x .unchecked) same, few .unchecked) in
       let torn : r .torn ≤ stripe = omega (arith, ap (λ (x : Tally). x .torn) same, few .torn) in
       let short : r .have < stripeLength a = omega (arith, q .have, q .short) in
       rw (
@@ -142,6 +143,7 @@ module _ (a : Array) (stripe : ℕ) (t : Tally) (h : List ℕ) (r : Report) (w :
         lt-ltb (r .have) (stripeLength a) short,
         le-leb (r .clean) stripe clean,
         le-leb (r .bad) stripe bad,
+        le-leb (r .unchecked) stripe unchecked,
         le-leb (r .torn) stripe torn,
       )
 

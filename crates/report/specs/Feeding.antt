@@ -40,7 +40,7 @@ pub record Does (step : Step) (answer : Fed) (work out outAfter : List ℕ) : Ty
   pub shows : outAfter ≡ sets out 0 (step .line)
 
 abbrev pub tallyOf : Report → Tally
-tallyOf r = record { clean = r .clean; bad = r .bad; torn = r .torn }
+tallyOf r = record { clean = r .clean; bad = r .bad; unchecked = r .unchecked; torn = r .torn }
 
 -- ---- the stages: the header is coming; the stripes are; all stripes have come; the last line is written
 
@@ -60,15 +60,15 @@ endedStage = 3
 
 abbrev pub holding : Report → List ℕ → ℕ → Scan → Report
 holding r header have scan =
-    record { stage = r .stage; header = header; have = have; scan = scan; clean = r .clean; bad = r .bad; torn = r .torn }
+    record { stage = r .stage; header = header; have = have; scan = scan; clean = r .clean; bad = r .bad; unchecked = r .unchecked; torn = r .torn }
 
 abbrev pub entering : ℕ → List ℕ → Scan → Tally → Report
 entering stage header scan t =
-    record { stage = stage; header = header; have = 0; scan = scan; clean = t .clean; bad = t .bad; torn = t .torn }
+    record { stage = stage; header = header; have = 0; scan = scan; clean = t .clean; bad = t .bad; unchecked = t .unchecked; torn = t .torn }
 
 abbrev pub ended : Report → Report
 ended r =
-    record { stage = endedStage; header = r .header; have = r .have; scan = r .scan; clean = r .clean; bad = r .bad; torn = r .torn }
+    record { stage = endedStage; header = r .header; have = r .have; scan = r .scan; clean = r .clean; bad = r .bad; unchecked = r .unchecked; torn = r .torn }
 
 -- ---- the header
 
@@ -108,6 +108,7 @@ stripeFit r =
     && ltb (r .have) (stripeLength (r .scan .array))
     && leb (r .clean) (r .scan .stripe)
     && leb (r .bad) (r .scan .stripe)
+    && leb (r .unchecked) (r .scan .stripe)
     && leb (r .torn) (r .scan .stripe)
 
 -- the stripe has its verdict: its line, and the scan of the stripe after it, if there is one

@@ -12,16 +12,17 @@ use Rattle.stripe.specs.Verdicts.{scrubBlocks}
 use Rattle.lines.specs.Lines.{firstLine, refusedLine, stripeLine, Tally, totalLine}
 use Rattle.lines.specs.Headers.{headerSize, arrayIn, headerRefusal}
 
--- ---- how many stripes were clean, bad, torn
+-- ---- how many stripes were clean, bad, unchecked, torn
 
 abbrev pub none : Tally
-none = record { clean = 0; bad = 0; torn = 0 }
+none = record { clean = 0; bad = 0; unchecked = 0; torn = 0 }
 
 unfoldable pub counted : Tally → List ℕ → Tally
 counted t verdict =
-    cond (eqb (getD verdict 0 0) 0) (record { clean = t .clean + 1; bad = t .bad; torn = t .torn })
-    (cond (eqb (getD verdict 0 0) 1) (record { clean = t .clean; bad = t .bad + 1; torn = t .torn })
-    (record { clean = t .clean; bad = t .bad; torn = t .torn + 1 }))
+    cond (eqb (getD verdict 0 0) 0) (record { clean = t .clean + 1; bad = t .bad; unchecked = t .unchecked; torn = t .torn })
+    (cond (eqb (getD verdict 0 0) 1) (record { clean = t .clean; bad = t .bad + 1; unchecked = t .unchecked; torn = t .torn })
+    (cond (eqb (getD verdict 0 0) 3) (record { clean = t .clean; bad = t .bad; unchecked = t .unchecked + 1; torn = t .torn })
+    (record { clean = t .clean; bad = t .bad; unchecked = t .unchecked; torn = t .torn + 1 })))
 
 -- ---- the stripes, of which `left` are still to come, the next one being `stripe`
 

@@ -16,6 +16,7 @@ ghost use Prim.Native.Nat.{_+_, _-_, _≤_};
 ghost use lib.ListN.{length};
 ghost use lib.Seq.{sets};
 ghost use Rattle.layout.specs.Arrays.{noArray};
+ghost use Rattle.lines.specs.Lines.{lineRoom};
 ghost use Rattle.scan.specs.Scans.{emptyScan};
 ghost use Rattle.report.specs.Feeding.{Does, holding, headerWhole, headerTook, headerStep, stripeStep, stageStep, feedStep, closeLine, freshReport};
 
@@ -40,13 +41,14 @@ pub fn new() -> Report
         scan: scan,
         clean: 0,
         bad: 0,
+        unchecked: 0,
         torn: 0,
     }
 }
 
 // The header is whole: the first line and the scan of the first stripe, or the header's refusal.
 fn header_whole(used: usize, report: Report, work: &mut [u8], out: &mut [u8]) -> Fed
-    requires { ⌜ 128 ≤ length (now out) ⌝ }
+    requires { ⌜ lineRoom ≤ length (now out) ⌝ }
     ensures { λ r. ⌜ Does (headerWhole used report (now (work .entry))) r (now (work .exit)) (now (out .entry)) (now (out .exit)) ⌝ }
 {
     let header = report.header;
@@ -65,7 +67,7 @@ fn header_whole(used: usize, report: Report, work: &mut [u8], out: &mut [u8]) ->
     let written = lines::first_line(out, array);
     let begun = scan::start(array, 0, work);
     let scan = begun.state;
-    let state = entering(1, header, scan, 0, 0, 0);
+    let state = entering(1, header, scan, 0, 0, 0, 0);
     Fed {
         state: state,
         used: used,
@@ -95,7 +97,7 @@ fn header_held(report: Report, bytes: &[u8]) -> Report
 // Takes bytes of the header, no more than it lacks.
 fn header_took(report: Report, bytes: &[u8], work: &mut [u8], out: &mut [u8]) -> Fed
     requires { ⌜ length (now bytes) ≤ 15 - report .have ⌝ }
-    requires { ⌜ 128 ≤ length (now out) ⌝ }
+    requires { ⌜ lineRoom ≤ length (now out) ⌝ }
     ensures { λ r. ⌜ Does (headerTook report (now (bytes .entry)) (now (work .entry))) r (now (work .exit)) (now (out .entry)) (now (out .exit)) ⌝ }
 {
     let used = bytes.len();
@@ -121,7 +123,7 @@ fn less(a: usize, b: usize) -> usize
 
 // Takes of the input what the header lacks.
 fn header_step(report: Report, input: &[u8], work: &mut [u8], out: &mut [u8]) -> Fed
-    requires { ⌜ 128 ≤ length (now out) ⌝ }
+    requires { ⌜ lineRoom ≤ length (now out) ⌝ }
     ensures { λ r. ⌜ Does (headerStep report (now (input .entry)) (now (work .entry))) r (now (work .exit)) (now (out .entry)) (now (out .exit)) ⌝ }
 {
     let header = report.header;
@@ -134,7 +136,7 @@ fn header_step(report: Report, input: &[u8], work: &mut [u8], out: &mut [u8]) ->
 
 // Takes of the input what the block lacks that comes now; an unfit state passes it over.
 fn stripe_step(report: Report, input: &[u8], work: &mut [u8], out: &mut [u8]) -> Fed
-    requires { ⌜ 128 ≤ length (now out) ⌝ }
+    requires { ⌜ lineRoom ≤ length (now out) ⌝ }
     ensures { λ r. ⌜ Does (stripeStep report (now (input .entry)) (now (work .entry))) r (now (work .exit)) (now (out .entry)) (now (out .exit)) ⌝ }
 {
     let have = report.have;
@@ -153,7 +155,7 @@ fn stripe_step(report: Report, input: &[u8], work: &mut [u8], out: &mut [u8]) ->
 
 // One step, by the stage.
 fn stage_step(report: Report, input: &[u8], work: &mut [u8], out: &mut [u8]) -> Fed
-    requires { ⌜ 128 ≤ length (now out) ⌝ }
+    requires { ⌜ lineRoom ≤ length (now out) ⌝ }
     ensures { λ r. ⌜ Does (stageStep report (now (input .entry)) (now (work .entry))) r (now (work .exit)) (now (out .entry)) (now (out .exit)) ⌝ }
 {
     let stage = report.stage;
@@ -217,7 +219,14 @@ pub fn close(state: Report, out: &mut [u8]) -> usize
     }
     if stage == 2 {
         let array = state.scan.array;
-        return lines::total_line(out, array, state.clean, state.bad, state.torn);
+        return lines::total_line(
+            out,
+            array,
+            state.clean,
+            state.bad,
+            state.unchecked,
+            state.torn,
+        );
     }
     0
 }

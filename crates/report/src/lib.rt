@@ -19,6 +19,7 @@ ghost use lib.ListN.{length};
 ghost use Rattle.verdict.specs.Verdicts.{verdictNumbers};
 ghost use Rattle.format.specs.Methods.{formatOf};
 ghost use Rattle.scan.specs.Scans.{finishNumbers};
+ghost use Rattle.lines.specs.Lines.{lineRoom};
 ghost use Rattle.report.specs.Reports.{counted};
 ghost use Rattle.report.specs.Feeding.{Does, holding, entering, ended, stripeFit, stripeJudged, stripeWhole, blockLacks, stripeTook};
 
@@ -32,6 +33,7 @@ pub struct Report {
     pub scan: Scan,
     pub clean: u64,
     pub bad: u64,
+    pub unchecked: u64,
     pub torn: u64,
 }
 
@@ -43,8 +45,16 @@ pub struct Fed {
 }
 
 // The state at the start of a stage or of a stripe.
-fn entering(stage: u8, header: [u8; HEADER], scan: Scan, clean: u64, bad: u64, torn: u64) -> Report
-    ensures { λ r. ⌜ r ≡ entering stage header scan (record { clean = clean; bad = bad; torn = torn }) ⌝ }
+fn entering(
+    stage: u8,
+    header: [u8; HEADER],
+    scan: Scan,
+    clean: u64,
+    bad: u64,
+    unchecked: u64,
+    torn: u64,
+) -> Report
+    ensures { λ r. ⌜ r ≡ entering stage header scan (record { clean = clean; bad = bad; unchecked = unchecked; torn = torn }) ⌝ }
 {
     Report {
         stage: stage,
@@ -53,6 +63,7 @@ fn entering(stage: u8, header: [u8; HEADER], scan: Scan, clean: u64, bad: u64, t
         scan: scan,
         clean: clean,
         bad: bad,
+        unchecked: unchecked,
         torn: torn,
     }
 }
@@ -76,22 +87,24 @@ fn stripe_held(report: Report, have: usize, scan: Scan) -> Report
     held
 }
 
-// How many stripes were clean, bad and torn.
+// How many stripes were clean, bad, unchecked and torn.
 struct Counts {
     clean: u64,
     bad: u64,
+    unchecked: u64,
     torn: u64,
 }
 
 // The counts with one more verdict.
-fn count_one(clean: u64, bad: u64, torn: u64, verdict: Verdict) -> Counts
-    requires { ⌜ clean + bad + torn ≤ 4294967296 ⌝ }
-    ensures { λ r. ⌜ record { clean = r .clean; bad = r .bad; torn = r .torn } ≡ counted (record { clean = clean; bad = bad; torn = torn }) (verdictNumbers verdict) ⌝ }
+fn count_one(clean: u64, bad: u64, unchecked: u64, torn: u64, verdict: Verdict) -> Counts
+    requires { ⌜ clean + bad + unchecked + torn ≤ 4294967296 ⌝ }
+    ensures { λ r. ⌜ record { clean = r .clean; bad = r .bad; unchecked = r .unchecked; torn = r .torn } ≡ counted (record { clean = clean; bad = bad; unchecked = unchecked; torn = torn }) (verdictNumbers verdict) ⌝ }
 {
     match verdict {
         Verdict::Clean => Counts {
             clean: clean + 1,
             bad: bad,
+            unchecked: unchecked,
             torn: torn,
         },
         Verdict::Bad {
@@ -100,11 +113,22 @@ fn count_one(clean: u64, bad: u64, torn: u64, verdict: Verdict) -> Counts
         } => Counts {
             clean: clean,
             bad: bad + 1,
+            unchecked: unchecked,
+            torn: torn,
+        },
+        Verdict::Unchecked {
+            member: _,
+            count: _,
+        } => Counts {
+            clean: clean,
+            bad: bad,
+            unchecked: unchecked + 1,
             torn: torn,
         },
         Verdict::Torn { place: _ } => Counts {
             clean: clean,
             bad: bad,
+            unchecked: unchecked,
             torn: torn + 1,
         },
     }
@@ -118,8 +142,8 @@ fn stripe_judged(
     work: &mut [u8],
     out: &mut [u8],
 ) -> Fed
-    requires { ⌜ 128 ≤ length (now out) ⌝ }
-    requires { ⌜ report .scan .stripe + (report .clean + report .bad + report .torn) ≤ 4294967296 ⌝ }
+    requires { ⌜ lineRoom ≤ length (now out) ⌝ }
+    requires { ⌜ report .scan .stripe + (report .clean + report .bad + report .unchecked + report .torn) ≤ 4294967296 ⌝ }
     ensures { λ r. ⌜ Does (stripeJudged used report (now (work .entry)) (verdictNumbers verdict)) r (now (work .exit)) (now (out .entry)) (now (out .exit)) ⌝ }
 {
     let header = report.header;
@@ -128,22 +152,29 @@ fn stripe_judged(
     let stripe = scan.stripe;
     let stripes = array.stripes;
     let written = lines::stripe_line(out, stripe, verdict);
-    let counts = count_one(report.clean, report.bad, report.torn, verdict);
+    let counts = count_one(
+        report.clean,
+        report.bad,
+        report.unchecked,
+        report.torn,
+        verdict,
+    );
     let clean = counts.clean;
     let bad = counts.bad;
+    let unchecked = counts.unchecked;
     let torn = counts.torn;
     let next = stripe + 1;
     if next < stripes {
         let begun = scan::start(array, next, work);
         let fresh = begun.state;
-        let state = entering(1, header, fresh, clean, bad, torn);
+        let state = entering(1, header, fresh, clean, bad, unchecked, torn);
         return Fed {
             state: state,
             used: used,
             written: written,
         };
     }
-    let state = entering(2, header, scan, clean, bad, torn);
+    let state = entering(2, header, scan, clean, bad, unchecked, torn);
     Fed {
         state: state,
         used: used,
@@ -153,8 +184,8 @@ fn stripe_judged(
 
 // The stripe is whole: by the scan's verdict, or the scan's refusal number, and the report is over.
 fn stripe_whole(used: usize, report: Report, work: &mut [u8], out: &mut [u8]) -> Fed
-    requires { ⌜ 128 ≤ length (now out) ⌝ }
-    requires { ⌜ report .scan .stripe + (report .clean + report .bad + report .torn) ≤ 4294967296 ⌝ }
+    requires { ⌜ lineRoom ≤ length (now out) ⌝ }
+    requires { ⌜ report .scan .stripe + (report .clean + report .bad + report .unchecked + report .torn) ≤ 4294967296 ⌝ }
     ensures { λ r. ⌜ Does (stripeWhole used report (now (work .entry)) (finishNumbers (report .scan) (now (work .entry)))) r (now (work .exit)) (now (out .entry)) (now (out .exit)) ⌝ }
 {
     let scan = report.scan;
@@ -192,7 +223,7 @@ fn whole_blocks(method: u8, have: usize) -> usize
 fn stripe_took(report: Report, bytes: &[u8], work: &mut [u8], out: &mut [u8]) -> Fed
     requires { ⌜ stripeFit report ≡ true ⌝ }
     requires { ⌜ length (now bytes) ≤ blockLacks report ⌝ }
-    requires { ⌜ 128 ≤ length (now out) ⌝ }
+    requires { ⌜ lineRoom ≤ length (now out) ⌝ }
     ensures { λ r. ⌜ Does (stripeTook report (now (bytes .entry)) (now (work .entry))) r (now (work .exit)) (now (out .entry)) (now (out .exit)) ⌝ }
 {
     let scan = report.scan;

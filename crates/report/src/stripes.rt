@@ -10,13 +10,16 @@ ghost use Rattle.format.specs.Methods.{formatOf};
 ghost use Rattle.report.specs.Feeding.{stripeFit};
 
 // No count is above the number of the stripes before.
-fn few(stripe: u64, clean: u64, bad: u64, torn: u64) -> bool
-    ensures { λ r. ⌜ r ≡ leb clean stripe && leb bad stripe && leb torn stripe ⌝ }
+fn few(stripe: u64, clean: u64, bad: u64, unchecked: u64, torn: u64) -> bool
+    ensures { λ r. ⌜ r ≡ leb clean stripe && leb bad stripe && leb unchecked stripe && leb torn stripe ⌝ }
 {
     if clean > stripe {
         return false;
     }
     if bad > stripe {
+        return false;
+    }
+    if unchecked > stripe {
         return false;
     }
     torn <= stripe
@@ -33,6 +36,7 @@ pub fn stripe_fit(report: Report) -> bool
     let have = report.have;
     let clean = report.clean;
     let bad = report.bad;
+    let unchecked = report.unchecked;
     let torn = report.torn;
     if layout::stripe_refusal(array, stripe) != 0 {
         return false;
@@ -40,7 +44,7 @@ pub fn stripe_fit(report: Report) -> bool
     if have >= stripe_length(METHOD, members) {
         return false;
     }
-    few(stripe, clean, bad, torn)
+    few(stripe, clean, bad, unchecked, torn)
 }
 
 // How many bytes a block lacks, when so many bytes of the stripe have come.

@@ -27,7 +27,7 @@ use Rattle.stripe.specs.Verdicts.{verdict, scrubBlocks, storedGuard}
 use Rattle.stripe.specs.Stripes.{Whole}
 use Rattle.stripe.proofs.Quick.{fits-where-zero, differs-within}
 use Rattle.scan.specs.History.{Call, piece, finish, begun, pieceNumber, finishNumber, answerTo, kept, answers}
-use Rattle.scan.specs.CutAnywhere.{historyOf, ByteCalls, together, FoundNoneBad, CutAnywhere}
+use Rattle.scan.specs.CutAnywhere.{historyOf, ByteCalls, together, FoundAllGood, CutAnywhere}
 use Rattle.scan.proofs.Finishes.{all-whole}
 use Rattle.scan.proofs.Simulation.{held-follows-history}
 
@@ -75,16 +75,17 @@ module _ (a : Array) (stripe : ℕ) where
 
   module _ (sound : Sound a) (calls : List Call) (bytes : ByteCalls calls)
       (accepted : finishNumber (formatAt a .blockLength) (a .members) (scrubBlocks a stripe) (historyOf a stripe calls) ≡ 0)
-      (none-bad : getD (scrubBlocks a stripe (historyOf a stripe calls)) 0 0 ≢ 1) where
+      (none-bad : getD (scrubBlocks a stripe (historyOf a stripe calls)) 0 0 ≢ 1)
+      (all-checked : getD (scrubBlocks a stripe (historyOf a stripe calls)) 0 0 ≢ 3) where
     pub quick-fits-beside : together a (historyOf a stripe calls) ≡ replicate (formatAt a .dataLength) 0
         → quickNumbers (map (storedGuard (formatAt a)) (historyOf a stripe calls)) ≡ 1 ∷ 0 ∷ 0 ∷ 0 ∷ []
-    quick-fits-beside = fits-where-zero a stripe (historyOf a stripe calls) sound (whole-history sound calls bytes accepted) none-bad
+    quick-fits-beside = fits-where-zero a stripe (historyOf a stripe calls) sound (whole-history sound calls bytes accepted) none-bad all-checked
 
     pub quick-differs-beside : together a (historyOf a stripe calls) ≢ replicate (formatAt a .dataLength) 0
         → Within 16 (bitsOf (together a (historyOf a stripe calls))) (bitsOf (replicate (formatAt a .dataLength) 0))
         → (guard (formatAt a) (together a (historyOf a stripe calls)) ≢ 0)
         × (quickNumbers (map (storedGuard (formatAt a)) (historyOf a stripe calls)) ≡ 1 ∷ 0 ∷ 1 ∷ guard (formatAt a) (together a (historyOf a stripe calls)) ∷ [])
-    quick-differs-beside = differs-within a stripe (historyOf a stripe calls) sound (whole-history sound calls bytes accepted) none-bad
+    quick-differs-beside = differs-within a stripe (historyOf a stripe calls) sound (whole-history sound calls bytes accepted) none-bad all-checked
 
   -- ---- at a finish among the calls, from the answers that they got
 
@@ -107,7 +108,7 @@ module _ (a : Array) (stripe : ℕ) where
 
   module _ (sound : Sound a) (calls : List Call) (xs : List (List ℕ))
       (right : xs ≡ answers (formatAt a .blockLength) (a .members) (scrubBlocks a stripe) (begun (a .members)) calls) where
-    done-with : (before : List Call) (f : FoundNoneBad calls before xs)
+    done-with : (before : List Call) (f : FoundAllGood calls before xs)
         → (finishNumber (formatAt a .blockLength) (a .members) (scrubBlocks a stripe) (historyOf a stripe before) ≡ 0)
         × (getD (scrubBlocks a stripe (historyOf a stripe before)) 0 0 ≡ f .kind)
     unfolding answerTo
@@ -124,8 +125,8 @@ module _ (a : Array) (stripe : ℕ) where
           answered = right;
           quick-fits = λ bytes before f.
               let d = done-with before f in
-              quick-fits-beside sound before (bytes-before before (finish ∷ f .later) (rw (f .there) at bytes)) (d .0) (λ e. f .not-bad (sym (d .1) ∙ e));
+              quick-fits-beside sound before (bytes-before before (finish ∷ f .later) (rw (f .there) at bytes)) (d .0) (λ e. f .not-bad (sym (d .1) ∙ e)) (λ e. f .not-unchecked (sym (d .1) ∙ e));
           quick-differs = λ bytes before f.
               let d = done-with before f in
-              quick-differs-beside sound before (bytes-before before (finish ∷ f .later) (rw (f .there) at bytes)) (d .0) (λ e. f .not-bad (sym (d .1) ∙ e));
+              quick-differs-beside sound before (bytes-before before (finish ∷ f .later) (rw (f .there) at bytes)) (d .0) (λ e. f .not-bad (sym (d .1) ∙ e)) (λ e. f .not-unchecked (sym (d .1) ∙ e));
         }

@@ -1,7 +1,6 @@
--- A finish by its steps: each member judged by its register and tag bytes, and the verdict from what the loop over them found.
+-- A finish by its steps: how each member stands by its register and tag bytes, and the verdict from what the loop over them found.
 -- Assumes nothing.
 use mathlib.Core.Path.{_≡_, refl, sym, ap, ap₂, _∙_}
-use mathlib.Core.Bool.{Bool, false, not}
 use mathlib.Core.List.{List, [], _∷_, map}
 use mathlib.Core.Logic.{_≢_}
 use Prim.Native.Nat.{ℕ, zero, suc, _+_, _*_, _≤_, _<_}
@@ -10,80 +9,68 @@ use lib.ListN.{length, getD, take, drop, length-take}
 use lib.Seq.{getD-take}
 use Rattle.format.specs.Formats.{mostTags}
 use Rattle.layout.specs.Answers.{answer}
-use Rattle.layout.specs.declared.Array.{Array}
 use Rattle.layout.specs.Places.{ownerRefusal}
 use Rattle.format.proofs.Sizes.{times-next}
-use Rattle.tag.specs.Tags.{found, tagWithin, due, dueAt, fits}
+use Rattle.layout.proofs.Ranges.{place-sound}
+use Rattle.layout.specs.declared.Array.{Array}
+use Rattle.tag.specs.Tags.{found, tagWithin, due, dueAt, standing}
 use Rattle.tag.proofs.Within.{tag-inside}
 use Rattle.scan.proofs.Joins.{getD-map-in}
 use Rattle.tag.specs.declared.Fields.{Fields}
 use Rattle.tag.proofs.Expected.{due-somewhere}
-use Rattle.verdict.specs.Verdicts.{count, lowest, nonzero, judgedBy, judged}
-use Rattle.stripe.specs.Tables.{span}
+use Rattle.verdict.specs.Verdicts.{nonzero, judged}
+use Rattle.stripe.specs.Tables.{table, span}
 use Rattle.tag.specs.Blocks.{formatAt}
 use Rattle.stripe.specs.Formats.{Summary}
-use Rattle.stripe.specs.Verdicts.{badMembers, tornPlaces, verdict}
-use Rattle.stripe.proofs.Tables.{length-table, getD-table, table-ext}
+use Rattle.stripe.specs.Verdicts.{standingMembers, tornPlaces, verdict}
+use Rattle.stripe.proofs.Tables.{getD-table, table-ext}
 use Rattle.scan.specs.declared.Scan.{Scan}
 use Rattle.scan.specs.Scans.{heldSummary, finishRefusal, finishNumbers}
-use Rattle.scan.specs.Steps.{goodBy, goodHeld, badHeld}
+use Rattle.scan.specs.Steps.{heldStanding, standingsHeld}
 use Rattle.scan.proofs.Refusals.{refused-verdict}
 
--- what a finish looks at of a state: all but the positions
-abbrev pub held : Array → ℕ → List ℕ → List ℕ → Scan
-held a stripe register tag = record { array = a; stripe = stripe; at = []; register = register; tag = tag }
-
-pub bad-by-held : (s : Scan) → badHeld (held (s .array) (s .stripe) (s .register) (s .tag)) ≡ badHeld s
-unfolding badHeld goodHeld
-bad-by-held s = refl
-
 -- one member, by the steps of its check
-pub good-by-steps : (a : Array) (stripe m at g register : ℕ) (tag : List ℕ) → ownerRefusal a stripe m ≡ 0 → m < 16 → length tag ≡ mostTags
-    → (expected f : Fields) (good : Bool) → at ≡ formatAt a .tagLength * m → g ≡ formatAt a .guardOf register → expected ≡ dueAt a stripe m g
-    → f ≡ found (formatAt a) (tagWithin (formatAt a) tag at) → good ≡ fits f expected → good ≡ goodBy a stripe m register tag
-unfolding goodBy span
-good-by-steps a stripe m at g register tag place few long expected f good here eg e r q =
+pub held-by-steps : (a : Array) (stripe m at g register : ℕ) (tags : List ℕ) → ownerRefusal a stripe m ≡ 0 → length tags ≡ mostTags
+    → (expected f : Fields) (how : ℕ) → at ≡ formatAt a .tagLength * m → g ≡ formatAt a .guardOf register
+    → expected ≡ dueAt a stripe m g → f ≡ found (formatAt a) (tagWithin (formatAt a) tags at)
+    → how ≡ standing (formatAt a) f expected → how ≡ heldStanding a stripe m register tags
+unfolding heldStanding span
+held-by-steps a stripe m at g register tags place long expected f how here eg e r q =
     let F = formatAt a in
-    let there : tagWithin F tag at ≡ take (F .tagLength) (drop (F .tagLength * m) tag) =
-    ap (tagWithin F tag) here ∙ tag-inside F tag (F .tagLength * m) (omega (arith, long, times-next (F .tagLength) m 16 few, F .tag-quarters, F .quarter-most)) in
-    q ∙ ap₂ fits (r ∙ ap (found F) there) (e ∙ due-somewhere a stripe m g place ∙ ap (due a stripe m) eg)
+    let p = place-sound a stripe m place in
+    let few : m < 16 = omega (arith, p .here, p .stripe .array .many) in
+    let tag : tagWithin F tags at ≡ take (F .tagLength) (drop (F .tagLength * m) tags) =
+    ap (tagWithin F tags) here ∙ tag-inside F tags (F .tagLength * m) (omega (arith, long, times-next (F .tagLength) m 16 few, F .tag-quarters, F .quarter-most)) in
+    q ∙ ap₂ (standing F) (r ∙ ap (found F) tag) (e ∙ due-somewhere a stripe m g place ∙ ap (due a stripe m) eg)
 
 module _ (s : Scan) where
-  pub length-badHeld : length (badHeld s) ≡ s .array .members
-  unfolding badHeld
-  length-badHeld = length-table (s .array .members) (λ m. not (goodHeld s m))
+  abbrev heldAs : ℕ → ℕ
+  heldAs m = heldStanding (s .array) (s .stripe) m (getD (s .register) m 0) (s .tag)
 
-  pub badHeld-at : (m : ℕ) → m < s .array .members → (good : Bool) → good ≡ goodHeld s m → getD (badHeld s) m false ≡ not good
-  unfolding badHeld
-  badHeld-at m h good e = getD-table (s .array .members) (λ m. not (goodHeld s m)) false m h ∙ ap not (sym e)
-
-  -- one member, by its own register
-  pub good-held : (m : ℕ) → m < s .array .members → s .array .members ≤ length (s .register) → goodBy (s .array) (s .stripe) m (getD (s .register) m 0) (s .tag) ≡ goodHeld s m
-  unfolding goodBy goodHeld
-  good-held m inside held =
-      let F = formatAt (s .array) in
-      let n = s .array .members in
-      let told : F .guardOf (getD (s .register) m 0) ≡ getD (map (F .guardOf) (take n (s .register))) m 0 =
-      ap (F .guardOf) (sym (getD-take n (s .register) m 0 inside)) ∙ sym (getD-map-in (F .guardOf) (take n (s .register)) m 0 0 (rw length-take (omega arith))) in
-      ap (λ (g : ℕ). fits (found F (span (F .tagLength * m) (F .tagLength) (s .tag))) (due (s .array) (s .stripe) m g)) told
+  -- the loop over the members, at its end
+  pub held-all : (l : List ℕ) (m : ℕ) → m ≡ s .array .members → take m l ≡ table m heldAs → take (s .array .members) l ≡ standingsHeld s
+  unfolding standingsHeld
+  held-all l m h e = ap (λ (n : ℕ). take n l) (sym h) ∙ e ∙ ap (λ (n : ℕ). table n heldAs) h
 
   -- the summary of what is held says the same of the members
-  bad-members-held : (w : List ℕ) → badMembers (s .array) (s .stripe) (heldSummary (formatAt (s .array)) (s .array .members) (s .register) (s .tag) w) ≡ badHeld s
-  unfolding badMembers badHeld goodHeld heldSummary
-  bad-members-held w =
+  standing-members-held : (w : List ℕ) → s .array .members ≤ length (s .register)
+      → standingMembers (s .array) (s .stripe) (heldSummary (formatAt (s .array)) (s .array .members) (s .register) (s .tag) w) ≡ standingsHeld s
+  unfolding standingMembers standingsHeld heldStanding heldSummary
+  standing-members-held w held =
       let F = formatAt (s .array) in
-      table-ext (s .array .members) _ _
+      let n = s .array .members in
+      table-ext n _ _
       (λ m h.
-      ap (λ (t : List ℕ). not (fits (found F t) (due (s .array) (s .stripe) m (getD (map (F .guardOf) (take (s .array .members) (s .register))) m 0))))
-      (getD-table (s .array .members) (λ m. span (F .tagLength * m) (F .tagLength) (s .tag)) [] m h))
+      ap₂ (λ (t : List ℕ) (g : ℕ). standing F (found F t) (due (s .array) (s .stripe) m g))
+      (getD-table n (λ m. span (F .tagLength * m) (F .tagLength) (s .tag)) [] m h)
+      (getD-map-in (F .guardOf) (take n (s .register)) m 0 0 (rw length-take (omega arith)) ∙ ap (F .guardOf) (getD-take n (s .register) m 0 h)))
 
   module _ (w : List ℕ) where
-    pub finish-found : finishRefusal s (length w) ≡ 0 → (low many : ℕ) (numbers : List ℕ) → low ≡ lowest (badHeld s) → many ≡ count (badHeld s)
-        → numbers ≡ judgedBy low many (nonzero w) → 1 ∷ 0 ∷ numbers ≡ finishNumbers s w
-    unfolding finishNumbers judged tornPlaces heldSummary
-    finish-found none low many numbers l c e =
-        ap (λ (x : List ℕ). 1 ∷ 0 ∷ x)
-        (e ∙ ap₂ (λ (x y : ℕ). judgedBy x y (nonzero w)) l c ∙ sym (ap (λ (x : List Bool). judged x (nonzero w)) (bad-members-held w)))
+    pub finish-found : finishRefusal s (length w) ≡ 0 → s .array .members ≤ length (s .register) → (members numbers : List ℕ) → members ≡ standingsHeld s
+        → numbers ≡ judged members (nonzero w) → 1 ∷ 0 ∷ numbers ≡ finishNumbers s w
+    unfolding finishNumbers tornPlaces heldSummary
+    finish-found none held members numbers l e =
+        ap (λ (x : List ℕ). 1 ∷ 0 ∷ x) (e ∙ ap (λ (x : List ℕ). judged x (nonzero w)) (l ∙ sym (standing-members-held w held)))
         ∙ sym (ap (λ (k : ℕ). answer k (verdict (s .array) (s .stripe) (heldSummary (formatAt (s .array)) (s .array .members) (s .register) (s .tag) w))) none)
 
     pub finish-refused : finishRefusal s (length w) ≢ 0 → finishNumbers s w ≡ 0 ∷ finishRefusal s (length w) ∷ 0 ∷ 0 ∷ 0 ∷ []

@@ -1,18 +1,18 @@
 -- Every list of calls has a run, from any state and any buffer: what is said of runs is said of every list of calls.
 -- Assumes nothing.
 use mathlib.Core.Path.{_≡_, refl, sym, ap}
-use mathlib.Core.Bool.{Bool, true, false}
+use mathlib.Core.Bool.{Bool}
 use mathlib.Core.List.{List, [], _∷_}
 use Prim.Native.Nat.{ℕ, zero, suc}
-use lib.Dec.{ltb}
 use lib.ListN.{length}
 use Rattle.verdict.specs.declared.Verdict.{Verdict}
-use Rattle.verdict.specs.declared.Verdict.the-variants.{Clean, Bad, Torn}
+use Rattle.verdict.specs.declared.Verdict.the-variants.{Clean, Bad, Torn, Unchecked}
 use Rattle.verdict.specs.declared.Scrubbed.{Scrubbed}
 use Rattle.verdict.specs.declared.Scrubbed.the-variants.{Refused, Found}
-use Rattle.verdict.specs.Verdicts.{count, lowest, judgedBy, judged, verdictNumbers, scrubbedNumbers}
+use Rattle.verdict.specs.Verdicts.{judged, verdictNumbers, scrubbedNumbers}
+use Rattle.verdict.proofs.Verdicts.{Judged, of-bad, of-unchecked, of-torn, of-clean, judged-case}
 use Rattle.tag.specs.Blocks.{formatAt}
-use Rattle.stripe.specs.Verdicts.{badMembers, tornPlaces}
+use Rattle.stripe.specs.Verdicts.{standingMembers, tornPlaces}
 use Rattle.scan.specs.declared.Scan.{Scan}
 use Rattle.scan.specs.declared.Taken.{Taken}
 use Rattle.scan.specs.History.{Call, piece, finish}
@@ -20,18 +20,18 @@ use Rattle.scan.specs.Scans.{heldSummary, pieceRefusal, pieceState, piec
 use Rattle.scan.specs.Runs.{Ran, ended, pieced, finished}
 use Rattle.scan.proofs.Refusals.{refused-verdict}
 
-record Judged (bads torn : List Bool) : Type 0 where
+record SomeVerdict (numbers : List ℕ) : Type 0 where
   verdict : Verdict
-  same : verdictNumbers verdict ≡ judged bads torn
+  same : verdictNumbers verdict ≡ numbers
 
-some-verdict : (bads torn : List Bool) → Judged bads torn
-unfolding judged judgedBy
-some-verdict bads torn = go (ltb 0 (count bads)) (ltb 0 (count torn)) refl refl
+some-verdict : (members : List ℕ) (torn : List Bool) → SomeVerdict (judged members torn)
+some-verdict members torn = by-case (judged-case members torn)
   where
-    go : (f g : Bool) → ltb 0 (count bads) ≡ f → ltb 0 (count torn) ≡ g → Judged bads torn
-    go true g e d = record { verdict = Bad (lowest bads) (count bads); same = rw e }
-    go false true e d = record { verdict = Torn (lowest torn); same = rw (e, d) }
-    go false false e d = record { verdict = Clean; same = rw (e, d) }
+    by-case : {l : List ℕ} → Judged members torn l → SomeVerdict l
+    by-case (of-bad p) = record { verdict = Bad _ _; same = refl }
+    by-case (of-unchecked p q) = record { verdict = Unchecked _ _; same = refl }
+    by-case (of-torn p q r) = record { verdict = Torn _; same = refl }
+    by-case (of-clean p q r) = record { verdict = Clean; same = refl }
 
 record Answered (s : Scan) (w : List ℕ) : Type 0 where
   given : Scrubbed
@@ -44,7 +44,7 @@ some-finish s w = go (finishRefusal s (length w)) refl
     go : (number : ℕ) → finishRefusal s (length w) ≡ number → Answered s w
     go zero e =
         let held = heldSummary (formatAt (s .array)) (s .array .members) (s .register) (s .tag) w in
-        let v = some-verdict (badMembers (s .array) (s .stripe) held) (tornPlaces held) in
+        let v = some-verdict (standingMembers (s .array) (s .stripe) held) (tornPlaces held) in
         record { given = Found (v .verdict); same = rw e (ap (λ (l : List ℕ). 1 ∷ 0 ∷ l) (v .same)) }
     go (suc number) e =
         record {

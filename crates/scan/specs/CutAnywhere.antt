@@ -28,8 +28,8 @@ ByteCalls (finish ∷ calls) = ByteCalls calls
 abbrev pub together : Array → List (List ℕ) → List ℕ
 together a blocks = combination (formatAt a .dataLength) (map (dataOf (formatAt a)) blocks)
 
--- a finish among the calls, after those of `before`, whose answer is a verdict and not of bad members: done, no refusal, its kind
-pub record FoundNoneBad (calls before : List Call) (xs : List (List ℕ)) : Type 0 where
+-- a finish among the calls, after those of `before`, whose answer is a verdict, and not of bad or unchecked members: done, no refusal, its kind
+pub record FoundAllGood (calls before : List Call) (xs : List (List ℕ)) : Type 0 where
   pub later : List Call
   pub there : calls ≡ before ++ (finish ∷ later)
   pub kind : ℕ
@@ -37,15 +37,16 @@ pub record FoundNoneBad (calls before : List Call) (xs : List (List ℕ)) : Type
   pub count : ℕ
   pub answer-is : getD xs (length before) [] ≡ 1 ∷ 0 ∷ kind ∷ place ∷ count ∷ []
   pub not-bad : kind ≢ 1
+  pub not-unchecked : kind ≢ 3
 
 -- the three parts: every answer is the history's; and at every such finish the quick scrub of the stored guards fits where parity is
 -- right, and differs, by the guard of the parity difference, where that lies within sixteen successive bits
 pub record CutAnywhere (a : Array) (stripe : ℕ) (calls : List Call) (xs : List (List ℕ)) : Type 0 where
   pub answered : xs ≡ answers (formatAt a .blockLength) (a .members) (scrubBlocks a stripe) (begun (a .members)) calls
-  pub quick-fits : ByteCalls calls → (before : List Call) → FoundNoneBad calls before xs
+  pub quick-fits : ByteCalls calls → (before : List Call) → FoundAllGood calls before xs
       → together a (historyOf a stripe before) ≡ replicate (formatAt a .dataLength) 0
       → quickNumbers (map (storedGuard (formatAt a)) (historyOf a stripe before)) ≡ 1 ∷ 0 ∷ 0 ∷ 0 ∷ []
-  pub quick-differs : ByteCalls calls → (before : List Call) → FoundNoneBad calls before xs
+  pub quick-differs : ByteCalls calls → (before : List Call) → FoundAllGood calls before xs
       → together a (historyOf a stripe before) ≢ replicate (formatAt a .dataLength) 0
       → Within 16 (bitsOf (together a (historyOf a stripe before))) (bitsOf (replicate (formatAt a .dataLength) 0))
       → (guard (formatAt a) (together a (historyOf a stripe before)) ≢ 0)

@@ -1,14 +1,14 @@
 -- Steps of the code, cited by promises of its private functions: no theorem's statement rests on these. Tests of the first positions,
--- a piece at its position, and the members that are bad by what a state holds. Assumes nothing.
+-- a piece at its position, and how the members stand by what a state holds. Assumes nothing.
 use Prim.Native.Nat.{ℕ, _+_, _-_, _*_}
-use mathlib.Core.Bool.{Bool, not}
+use mathlib.Core.Bool.{Bool}
 use mathlib.Core.List.{List, _++_, map}
 use lib.Dec.{leb, eqb}
 use lib.ListN.{getD, take, drop}
 use lib.Seq.{sets}
 use Rattle.xor.specs.Xors.{xors}
 use Rattle.layout.specs.declared.Array.{Array}
-use Rattle.tag.specs.Tags.{found, due, fits}
+use Rattle.tag.specs.Tags.{found, due, standing}
 use Rattle.stripe.specs.Tables.{table, all, span}
 use Rattle.format.specs.Formats.{Format}
 use Rattle.tag.specs.Blocks.{formatAt}
@@ -29,15 +29,12 @@ combinedFrom F p work bytes = take p work ++ xors (drop p work) (dataOfPiece F p
 abbrev pub tagsFrom : Format → ℕ → List ℕ → ℕ → List ℕ → List ℕ
 tagsFrom F p tag m bytes = sets tag (F .tagLength * m + (p - F .dataLength)) (tagOfPiece F p bytes)
 
--- the tag bytes of member m, among those of all, are those due to a register at its place
-unfoldable pub goodBy : Array → ℕ → ℕ → ℕ → List ℕ → Bool
-goodBy a stripe m register tag = let F = formatAt a in fits (found F (span (F .tagLength * m) (F .tagLength) tag)) (due a stripe m (F .guardOf register))
+-- how a member stands by its register and its tag bytes among those held
+unfoldable pub heldStanding : Array → ℕ → ℕ → ℕ → List ℕ → ℕ
+heldStanding a stripe m register tag =
+    let F = formatAt a in
+    standing F (found F (span (F .tagLength * m) (F .tagLength) tag)) (due a stripe m (F .guardOf register))
 
--- a member's tag bytes are those due to its register at its place
-unfoldable pub goodHeld : Scan → ℕ → Bool
-goodHeld s m =
-    let F = formatAt (s .array) in
-    fits (found F (span (F .tagLength * m) (F .tagLength) (s .tag))) (due (s .array) (s .stripe) m (getD (map (F .guardOf) (take (s .array .members) (s .register))) m 0))
-
-unfoldable pub badHeld : Scan → List Bool
-badHeld s = table (s .array .members) (λ m. not (goodHeld s m))
+-- how the members of a state stand
+unfoldable pub standingsHeld : Scan → List ℕ
+standingsHeld s = table (s .array .members) (λ m. heldStanding (s .array) (s .stripe) m (getD (s .register) m 0) (s .tag))

@@ -1,26 +1,20 @@
 // A scan ends in the full scrub's verdict.
 ghost use mathlib.Core.Path.{_≡_};
 ghost use Prim.Native.Nat.{_*_, _≤_};
-ghost use lib.ListN.{length, getD};
+ghost use lib.ListN.{length, take};
 ghost use Rattle.format.specs.Formats.{mostTags};
 ghost use Rattle.format.specs.Methods.{formatOf};
 ghost use Rattle.layout.specs.Arrays.{stripeRefusal};
 ghost use Rattle.layout.specs.Places.{ownerRefusal};
-ghost use Rattle.verdict.specs.Verdicts.{count, lowest, scrubbedNumbers};
+ghost use Rattle.verdict.specs.Verdicts.{scrubbedNumbers};
 ghost use Rattle.scan.specs.Scans.{finishRefusal, finishNumbers};
-ghost use Rattle.scan.specs.Steps.{allWhole, goodBy, badHeld};
+ghost use Rattle.scan.specs.Steps.{allWhole, heldStanding, standingsHeld};
 use crate::Scan;
 use crate::fit;
 use crate::tag_at;
 use format::METHOD;
 use layout::Array;
 use verdict::Scrubbed;
-
-// The bad members of a stripe: the lowest of them, and how many they are.
-struct BadMembers {
-    lowest: usize,
-    count: usize,
-}
 
 // Whether all of the first positions stand at the end of a block.
 fn all_whole(method: u8, at: [u16; 16], members: usize) -> bool
@@ -57,41 +51,42 @@ fn finish_refusal(state: Scan, length: usize) -> u8
     0
 }
 
-// Whether the tag bytes held of a member, among those of all, are those due to its register.
-fn is_good(array: Array, stripe: u64, member: usize, register: u16, bytes: &[u8]) -> bool
+// How a member with this register stands, by its tag bytes among those held.
+fn standing(array: Array, stripe: u64, member: usize, register: u16, tags: &[u8]) -> u8
     requires { ⌜ ownerRefusal array stripe member ≡ 0 ⌝ }
-    requires { ⌜ length (now bytes) ≡ mostTags ⌝ }
-    ensures { λ r. ⌜ r ≡ goodBy array stripe member register (now (bytes .entry)) ⌝ }
+    requires { ⌜ length (now tags) ≡ mostTags ⌝ }
+    ensures { λ r. ⌜ r ≡ heldStanding array stripe member register (now (tags .entry)) ⌝ }
 {
     let method = METHOD;
     let at = tag_at(method, member);
     let guard = format::guard_of(method, register);
     let expected = tag::due(array, stripe, member, guard);
-    tag::is_due(tag::found(method, bytes, at), expected)
+    tag::standing(method, tag::found(method, tags, at), expected)
 }
 
-// The bad members, found from the highest down; the lowest is the number of members where none is bad.
-fn bad_members(state: Scan) -> BadMembers
+// How the members stand, in member order from the front.
+fn standings(state: Scan) -> [u8; 16]
     requires { ⌜ stripeRefusal (state .array) (state .stripe) ≡ 0 ⌝ }
-    ensures { λ r. ⌜ r .lowest ≡ lowest (badHeld state) ⌝ }
-    ensures { λ r. ⌜ r .count ≡ count (badHeld state) ⌝ }
+    ensures { λ r. ⌜ take (state .array .members) r ≡ standingsHeld state ⌝ }
 {
     let array = state.array;
     let stripe = state.stripe;
-    let registers = state.register;
-    let bytes = state.tag;
+    let register = state.register;
+    let tags = state.tag;
     let members = array.members;
-    let mut lowest = members;
-    let mut count: usize = 0;
-    let mut member = members;
-    while 0 < member {
-        member -= 1;
-        if !is_good(array, stripe, member, registers[member], &bytes) {
-            lowest = member;
-            count += 1;
-        }
+    let mut standing = [0u8; 16];
+    let mut member: usize = 0;
+    while member < members {
+        standing[member] = crate::finishing::standing(
+            array,
+            stripe,
+            member,
+            register[member],
+            &tags,
+        );
+        member += 1;
     }
-    BadMembers { lowest, count }
+    standing
 }
 
 // Ends a scan: the verdict by what the state and the work buffer hold. It changes nothing, and may be asked again.
@@ -102,6 +97,7 @@ pub fn finish(state: Scan, work: &[u8]) -> Scrubbed
     if refusal != 0 {
         return Scrubbed::Refused(refusal);
     }
-    let bad = bad_members(state);
-    Scrubbed::Found(verdict::judge(bad.lowest, bad.count, work))
+    let members = state.array.members;
+    let standing = standings(state);
+    Scrubbed::Found(verdict::judge(&standing[0..members], work))
 }

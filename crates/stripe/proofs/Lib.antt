@@ -27,4 +27,5 @@ pub mod CombinedGuards
 pub mod Torn
 pub mod Clean
 pub mod RebuildClean
+pub mod NoneUnchecked
 pub mod Rooms

@@ -1,4 +1,4 @@
--- The quick scrub on the stored guards of whole blocks: where no member is bad it sees the guard of the blocks' combination, so it fits
+-- The quick scrub on the stored guards of whole blocks: where no member is bad or unchecked it sees the guard of the blocks' combination, so it fits
 -- where the data combine to zero, and differs wherever they do not and all one bits lie within sixteen successive bits.
 -- Assumes nothing.
 use mathlib.Core.Path.{_≡_, refl, sym, ap, ap₂, _∙_}
@@ -24,7 +24,7 @@ use Rattle.layout.specs.declared.Array.{Array}
 use Rattle.tag.specs.Blocks.{formatAt, dataOf}
 use Rattle.tag.specs.Tags.{due, good}
 use Rattle.tag.specs.declared.Fields.{Fields}
-use Rattle.tag.proofs.Fits.{good-fields}
+use Rattle.tag.proofs.Cases.{good-fields}
 use Rattle.tag.proofs.Tagged.{length-data, bytes-of-data}
 use Rattle.verdict.specs.Verdicts.{combinedGuards, quickRefusal, quickNumbers}
 use Rattle.verdict.proofs.Verdicts.{zeros-at}
@@ -74,7 +74,7 @@ within-zeros n from bytes low high = record { from = from; before = λ k h. low 
     none : (k : ℕ) → getD (bitsOf (replicate n 0)) k 0 ≡ 0
     none k = ap (λ (l : List ℕ). getD l k 0) all ∙ zeros-at (length (bitsOf (replicate n 0))) k
 
-module _ (a : Array) (s : ℕ) (blocks : List (List ℕ)) (sound : Sound a) (whole : Whole a blocks) (none-bad : getD (scrubBlocks a s blocks) 0 0 ≢ 1) where
+module _ (a : Array) (s : ℕ) (blocks : List (List ℕ)) (sound : Sound a) (whole : Whole a blocks) (none-bad : getD (scrubBlocks a s blocks) 0 0 ≢ 1) (all-checked : getD (scrubBlocks a s blocks) 0 0 ≢ 3) where
   -- the stored guards combined are the guard of the combination, and that of a block of zeros where the members are even in number
   pub guards-combined : bitXor (combinedGuards (map (storedGuard (formatAt a)) blocks)) (spare (formatAt a) (suc (a .members)))
       ≡ guard (formatAt a) (combination (formatAt a .dataLength) (map (dataOf (formatAt a)) blocks))
@@ -82,7 +82,7 @@ module _ (a : Array) (s : ℕ) (blocks : List (List ℕ)) (sound : Sound a) (who
       let F = formatAt a in
       let count : length (map (dataOf F) blocks) ≡ a .members = length-map blocks (dataOf F) ∙ whole .all-there in
       ap₂ (λ (x n : ℕ). bitXor x (spare F (suc n)))
-      (ap combinedGuards (stored-guards F blocks (λ i h. good-guard a s i (getD blocks i []) (blocks-good a s blocks (whole .all-there) none-bad i (omega (arith, whole .all-there)))))
+      (ap combinedGuards (stored-guards F blocks (λ i h. good-guard a s i (getD blocks i []) (blocks-good a s blocks (whole .all-there) none-bad all-checked i (omega (arith, whole .all-there)))))
       ∙ sym (together-guards (map (guard F) (map (dataOf F) blocks)))) (sym count)
       ∙ sym (guard-combination F (combines 1) (map (dataOf F) blocks) (lengths-data F blocks (whole .long)))
 

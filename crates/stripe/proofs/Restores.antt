@@ -19,7 +19,7 @@ use Rattle.layout.proofs.Ranges.{place-sound}
 use Rattle.layout.proofs.Bijection.{place-refusal}
 use Rattle.format.proofs.Sizes.{times-next}
 use Rattle.tag.specs.Blocks.{formatAt, dataOf}
-use Rattle.tag.specs.Tags.{good, tagged}
+use Rattle.tag.specs.Tags.{good, bad, tagged}
 use Rattle.tag.proofs.Tagged.{length-tagged, data-of-tagged, tagged-good, good-tagged}
 use Rattle.stripe.specs.Stripes.{stripeLength, blockOf, othersData, othersGood, Parity}
 use Rattle.stripe.specs.Jobs.{rebuilt, rebuildRefusal, rebuildBytes, Reads}
@@ -116,7 +116,7 @@ pub read-restores : (a : Array) (block : ℕ) (before damaged out : List ℕ) �
     → length before ≡ stripeLength a → length damaged ≡ stripeLength a → length out ≡ (formatAt a .dataLength)
     → ((k : ℕ) → k < a .members → k ≢ memberOf a block → blockOf (formatAt a) damaged k ≡ blockOf (formatAt a) before k)
     → ((k : ℕ) → k < a .members → k ≢ memberOf a block → good a (stripeOf a block) k (blockOf (formatAt a) before k) ≡ true)
-    → good a (stripeOf a block) (memberOf a block) (blockOf (formatAt a) damaged (memberOf a block)) ≡ false → Parity (formatAt a) (a .members) before
+    → bad a (stripeOf a block) (memberOf a block) (blockOf (formatAt a) damaged (memberOf a block)) ≡ true → Parity (formatAt a) (a .members) before
     → Reads a block damaged out (1 ∷ 0 ∷ 1 ∷ []) (dataOf (formatAt a) (blockOf (formatAt a) before (memberOf a block)))
 read-restores a block before damaged out taken long as-long room kept good-before lost parity =
     let s = stripeOf a block in

@@ -1,15 +1,15 @@
--- The full scrub, of whole blocks and of a stripe in memory: when it is refused, and that it says clean, bad and torn exactly of such stripes.
+-- The full scrub, of whole blocks and of a stripe in memory: when it is refused, and that it says clean, bad, unchecked
+-- and torn exactly of such stripes.
 -- Assumes nothing.
 use mathlib.Core.Path.{_≡_, refl, sym, ap, ap₂, _∙_}
-use mathlib.Core.Bool.{Bool, true, false, not}
+use mathlib.Core.Bool.{true, false, not}
 use mathlib.Core.List.{List, [], _∷_, map}
 use mathlib.Core.Logic.{_≢_, _↔_, Iff·trans}
 use Prim.Native.Nat.{ℕ, zero, suc, _+_, _*_, _≤_, _<_}
-use native.Mathlib.Nat.{le-of-suc-le-suc, not-suc-le-zero}
 use native.Mathlib.Omega.{arith}
 use borrow.Author.Tests.{eqb-true, eq-eqb, ne-eqb}
 use lib.Dec.{eqb}
-use lib.ListN.{length, getD, replicate}
+use lib.ListN.{length, getD, set, take, replicate}
 use Rattle.xor.specs.Xors.{combination}
 use Rattle.xor.proofs.Combination.{length-combination}
 use Rattle.format.specs.Formats.{guard}
@@ -21,73 +21,75 @@ use Rattle.layout.specs.declared.Array.{Array}
 use Rattle.layout.proofs.Answers.{after-refused, answer-refused, refuse-none}
 use Rattle.layout.proofs.Ranges.{stripe-sound, sound-place}
 use Rattle.tag.specs.Blocks.{formatAt, dataOf, tagOf}
-use Rattle.tag.specs.Tags.{found, due, fits, good, bad}
-use Rattle.verdict.specs.Verdicts.{count, lowest, nonzero, judgedBy, judged}
+use Rattle.tag.specs.Tags.{found, due, standing, standingAt, good, bad, unchecked}
+use Rattle.tag.proofs.Cases.{stands-few}
+use Rattle.verdict.specs.Verdicts.{count, nonzero, judged}
 use Rattle.verdict.specs.Flags.{FirstNonzero}
-use Rattle.verdict.proofs.Verdicts.{judged-refused, none-bad}
+use Rattle.verdict.proofs.Verdicts.{getD-map, judged-refused, none-amiss}
 use Rattle.stripe.specs.Tables.{table}
 use Rattle.stripe.specs.Stripes.{stripeLength, blockOf, memberData, othersData}
 use Rattle.stripe.specs.Formats.{summaryOf}
-use Rattle.stripe.specs.Verdicts.{badMembers, tornPlaces, scrubBlocks, scrubRefusal, scrubNumbers, FirstFailing}
-use Rattle.stripe.specs.Steps.{badBlocks}
-use Rattle.stripe.proofs.Tables.{length-table, getD-table, table-ext, map-table, others-past}
-use Rattle.stripe.proofs.Verdicts.{judgement, none-failing, clean-exactly, bad-exactly, torn-exactly}
-
-module _ {A B : Type 0} where
-  getD-map : (f : A → B) (l : List A) (i : ℕ) (d : B) (e : A) → i < length l → getD (map f l) i d ≡ f (getD l i e)
-  getD-map f [] i d e h = absurd (not-suc-le-zero h)
-  getD-map f (x ∷ l) zero d e h = refl
-  getD-map f (x ∷ l) (suc i) d e h = getD-map f l i d e (le-of-suc-le-suc h)
+use Rattle.stripe.specs.Verdicts.{standingMembers, tornPlaces, scrubBlocks, scrubRefusal, scrubNumbers, FirstMember}
+use Rattle.stripe.specs.Steps.{standings}
+use Rattle.stripe.proofs.Tables.{length-table, getD-table, table-ext, table-filled, map-table, others-past}
+use Rattle.stripe.proofs.Verdicts.{judgement, all-good, clean-exactly, bad-exactly, unchecked-exactly, torn-exactly}
 
 -- ---- of whole blocks
 
 module _ (a : Array) (s : ℕ) (blocks : List (List ℕ)) (all-there : length blocks ≡ a .members) where
-  pub bad-members : badMembers a s (summaryOf (formatAt a) blocks) ≡ table (a .members) (λ m. bad a s m (getD blocks m []))
-  unfolding badMembers good
-  bad-members = table-ext (a .members) _ (λ m. bad a s m (getD blocks m [])) same
+  -- how a member's block stands, and what all data combine to
+  abbrev standsAt : ℕ → ℕ
+  standsAt m = standingAt a s m (getD blocks m [])
+
+  abbrev together : List ℕ
+  together = combination (formatAt a .dataLength) (map (dataOf (formatAt a)) blocks)
+
+  pub standing-members : standingMembers a s (summaryOf (formatAt a) blocks) ≡ table (a .members) standsAt
+  unfolding standingMembers standingAt
+  standing-members = table-ext (a .members) _ standsAt same
     where
       same : (m : ℕ) → m < a .members
-          → not (fits (found (formatAt a) (getD (map (tagOf (formatAt a)) blocks) m [])) (due a s m (getD (map (λ b. guard (formatAt a) (dataOf (formatAt a) b)) blocks) m 0)))
-          ≡ not (fits (found (formatAt a) (tagOf (formatAt a) (getD blocks m []))) (due a s m (guard (formatAt a) (dataOf (formatAt a) (getD blocks m [])))))
+          → standing (formatAt a) (found (formatAt a) (getD (map (tagOf (formatAt a)) blocks) m [])) (due a s m (getD (map (λ b. guard (formatAt a) (dataOf (formatAt a) b)) blocks) m 0))
+          ≡ standing (formatAt a) (found (formatAt a) (tagOf (formatAt a) (getD blocks m []))) (due a s m (guard (formatAt a) (dataOf (formatAt a) (getD blocks m []))))
       same m h =
           let inside : m < length blocks = omega arith in
-          ap₂ (λ (t : List ℕ) (g : ℕ). not (fits (found (formatAt a) t) (due a s m g)))
+          ap₂ (λ (t : List ℕ) (g : ℕ). standing (formatAt a) (found (formatAt a) t) (due a s m g))
           (getD-map (tagOf (formatAt a)) blocks m [] [] inside)
           (getD-map (λ b. guard (formatAt a) (dataOf (formatAt a) b)) blocks m 0 [] inside)
 
-  pub scrub-judgement : scrubBlocks a s blocks ≡ judgement (λ m. good a s m (getD blocks m [])) (a .members) (combination (formatAt a .dataLength) (map (dataOf (formatAt a)) blocks))
+  pub scrub-judgement : scrubBlocks a s blocks ≡ judgement standsAt (a .members) together
   unfolding tornPlaces
-  scrub-judgement = ap (λ (bads : List Bool). judged bads (nonzero (combination (formatAt a .dataLength) (map (dataOf (formatAt a)) blocks)))) bad-members
+  scrub-judgement = ap (λ (members : List ℕ). judged members (nonzero together)) standing-members
 
-  said : (numbers : List ℕ) → (scrubBlocks a s blocks ≡ numbers)
-      ↔ (judgement (λ m. good a s m (getD blocks m [])) (a .members) (combination (formatAt a .dataLength) (map (dataOf (formatAt a)) blocks)) ≡ numbers)
+  said : (numbers : List ℕ) → (scrubBlocks a s blocks ≡ numbers) ↔ (judgement standsAt (a .members) together ≡ numbers)
   said numbers = (λ e. sym scrub-judgement ∙ e, λ e. scrub-judgement ∙ e)
 
   pub blocks-clean : (scrubBlocks a s blocks ≡ 0 ∷ 0 ∷ 0 ∷ [])
-      ↔ (((m : ℕ) → m < a .members → good a s m (getD blocks m []) ≡ true) × (combination (formatAt a .dataLength) (map (dataOf (formatAt a)) blocks) ≡ replicate (formatAt a .dataLength) 0))
+      ↔ (((m : ℕ) → m < a .members → good a s m (getD blocks m []) ≡ true) × (together ≡ replicate (formatAt a .dataLength) 0))
   blocks-clean =
       Iff·trans (said (0 ∷ 0 ∷ 0 ∷ []))
-      (clean-exactly (λ m. good a s m (getD blocks m [])) (a .members) (combination (formatAt a .dataLength) (map (dataOf (formatAt a)) blocks)) (formatAt a .dataLength)
-      (length-combination (formatAt a .dataLength) (map (dataOf (formatAt a)) blocks)))
+      (clean-exactly standsAt (a .members) together (λ m. stands-few a s m (getD blocks m [])) (formatAt a .dataLength) (length-combination (formatAt a .dataLength) (map (dataOf (formatAt a)) blocks)))
 
   pub blocks-bad : (member bads : ℕ) → (scrubBlocks a s blocks ≡ 1 ∷ member ∷ bads ∷ [])
-      ↔ (FirstFailing (λ m. good a s m (getD blocks m [])) (a .members) member × (bads ≡ count (table (a .members) (λ m. bad a s m (getD blocks m [])))))
-  blocks-bad member bads =
-      Iff·trans (said (1 ∷ member ∷ bads ∷ []))
-      (bad-exactly (λ m. good a s m (getD blocks m [])) (a .members) (combination (formatAt a .dataLength) (map (dataOf (formatAt a)) blocks)) member bads)
+      ↔ (FirstMember (λ m. bad a s m (getD blocks m [])) (a .members) member × (bads ≡ count (table (a .members) (λ m. bad a s m (getD blocks m [])))))
+  blocks-bad member bads = Iff·trans (said (1 ∷ member ∷ bads ∷ [])) (bad-exactly standsAt (a .members) together member bads)
+
+  pub blocks-unchecked : (member many : ℕ) → (scrubBlocks a s blocks ≡ 3 ∷ member ∷ many ∷ [])
+      ↔ (((m : ℕ) → m < a .members → bad a s m (getD blocks m []) ≡ false) × FirstMember (λ m. unchecked a s m (getD blocks m [])) (a .members) member
+      × (many ≡ count (table (a .members) (λ m. unchecked a s m (getD blocks m [])))))
+  blocks-unchecked member many = Iff·trans (said (3 ∷ member ∷ many ∷ [])) (unchecked-exactly standsAt (a .members) together member many)
 
   pub blocks-torn : (place : ℕ) → (scrubBlocks a s blocks ≡ 2 ∷ place ∷ 0 ∷ [])
-      ↔ (((m : ℕ) → m < a .members → good a s m (getD blocks m []) ≡ true) × FirstNonzero (combination (formatAt a .dataLength) (map (dataOf (formatAt a)) blocks)) place)
+      ↔ (((m : ℕ) → m < a .members → good a s m (getD blocks m []) ≡ true) × FirstNonzero together place)
   blocks-torn place =
-      Iff·trans (said (2 ∷ place ∷ 0 ∷ []))
-      (torn-exactly (λ m. good a s m (getD blocks m [])) (a .members) (combination (formatAt a .dataLength) (map (dataOf (formatAt a)) blocks)) place)
+      Iff·trans (said (2 ∷ place ∷ 0 ∷ [])) (torn-exactly standsAt (a .members) together (λ m. stands-few a s m (getD blocks m [])) place)
 
-  -- a verdict that is not bad: every member is good
-  pub blocks-good : getD (scrubBlocks a s blocks) 0 0 ≢ 1 → (m : ℕ) → m < a .members → good a s m (getD blocks m []) ≡ true
-  blocks-good h =
-      none-failing (λ m. good a s m (getD blocks m [])) (a .members) .0
-      (none-bad (table (a .members) (λ m. bad a s m (getD blocks m []))) (nonzero (combination (formatAt a .dataLength) (map (dataOf (formatAt a)) blocks)))
-      (λ e. h (ap (λ (l : List ℕ). getD l 0 0) scrub-judgement ∙ e)))
+  -- a verdict that is neither bad nor unchecked: every member is good
+  pub blocks-good : getD (scrubBlocks a s blocks) 0 0 ≢ 1 → getD (scrubBlocks a s blocks) 0 0 ≢ 3 → (m : ℕ) → m < a .members → good a s m (getD blocks m []) ≡ true
+  blocks-good h k =
+      all-good standsAt (a .members) (λ m. stands-few a s m (getD blocks m [])) .0
+      (none-amiss (table (a .members) standsAt) (nonzero together)
+      (λ e. h (ap (λ (l : List ℕ). getD l 0 0) scrub-judgement ∙ e)) (λ e. k (ap (λ (l : List ℕ). getD l 0 0) scrub-judgement ∙ e)))
 
 -- ---- refused
 
@@ -125,69 +127,75 @@ module _ (a : Array) (s : ℕ) where
   scrub-refused bytes h =
       let stored = summaryOf (formatAt a) (table (a .members) (blockOf (formatAt a) bytes)) in
       answer-refused (scrubRefusal a s (length bytes)) (scrubBlocks a s (table (a .members) (blockOf (formatAt a) bytes))) h
-      ∙ ap (λ (l : List ℕ). 0 ∷ scrubRefusal a s (length bytes) ∷ l) (judged-refused (badMembers a s stored) (tornPlaces stored))
+      ∙ ap (λ (l : List ℕ). 0 ∷ scrubRefusal a s (length bytes) ∷ l) (judged-refused (standingMembers a s stored) (tornPlaces stored))
 
 -- ---- of a stripe in memory
 
 module _ (a : Array) (s : ℕ) (bytes : List ℕ) where
-  pub length-badBlocks : length (badBlocks a s bytes) ≡ a .members
-  unfolding badBlocks
-  length-badBlocks = length-table (a .members) (λ m. bad a s m (blockOf (formatAt a) bytes m))
+  abbrev storedAs : ℕ → ℕ
+  storedAs m = standingAt a s m (blockOf (formatAt a) bytes m)
 
-  pub badBlocks-at : (m : ℕ) → m < a .members → (flag : Bool) → flag ≡ good a s m (blockOf (formatAt a) bytes m) → getD (badBlocks a s bytes) m false ≡ not flag
-  unfolding badBlocks
-  badBlocks-at m h flag e = getD-table (a .members) (λ m. bad a s m (blockOf (formatAt a) bytes m)) false m h ∙ ap not (sym e)
+  abbrev storedTogether : List ℕ
+  storedTogether = combination (formatAt a .dataLength) (memberData (formatAt a) (a .members) bytes)
+
+  -- the loop over the members, from the first on
+  pub standings-next : (l : List ℕ) (m how : ℕ) → m < length l → take m l ≡ table m storedAs → how ≡ storedAs m → take (m + 1) (set l m how) ≡ table (m + 1) storedAs
+  standings-next l m how h e k = table-filled l storedAs m how h e k
+
+  pub standings-all : (l : List ℕ) (m : ℕ) → m ≡ a .members → take m l ≡ table m storedAs → take (a .members) l ≡ standings a s bytes
+  unfolding standings
+  standings-all l m h e = ap (λ (n : ℕ). take n l) (sym h) ∙ e ∙ ap (λ (n : ℕ). table n storedAs) h
 
 module _ (a : Array) (s : ℕ) (bytes : List ℕ) (sound : scrubRefusal a s (length bytes) ≡ 0) where
-  pub scrub-answered : scrubNumbers a s bytes
-      ≡ 1 ∷ 0 ∷ judgement (λ m. good a s m (blockOf (formatAt a) bytes m)) (a .members) (combination (formatAt a .dataLength) (memberData (formatAt a) (a .members) bytes))
+  pub scrub-answered : scrubNumbers a s bytes ≡ 1 ∷ 0 ∷ judgement (storedAs a s bytes) (a .members) (storedTogether a s bytes)
   unfolding scrubNumbers
   scrub-answered =
       let blocks = table (a .members) (blockOf (formatAt a) bytes) in
-      let same : table (a .members) (λ m. bad a s m (getD blocks m [])) ≡ table (a .members) (λ m. bad a s m (blockOf (formatAt a) bytes m)) =
-      table-ext (a .members) (λ m. bad a s m (getD blocks m [])) (λ m. bad a s m (blockOf (formatAt a) bytes m))
-      (λ m h. ap (λ (b : List ℕ). bad a s m b) (getD-table (a .members) (blockOf (formatAt a) bytes) [] m h)) in
+      let same : table (a .members) (λ m. standingAt a s m (getD blocks m [])) ≡ table (a .members) (storedAs a s bytes) =
+      table-ext (a .members) (λ m. standingAt a s m (getD blocks m [])) (storedAs a s bytes)
+      (λ m h. ap (standingAt a s m) (getD-table (a .members) (blockOf (formatAt a) bytes) [] m h)) in
       rw sound
       (ap (λ (l : List ℕ). 1 ∷ 0 ∷ l)
       (scrub-judgement a s blocks (length-table (a .members) (blockOf (formatAt a) bytes))
-      ∙ ap₂ (λ (bads : List Bool) (l : List (List ℕ)). judged bads (nonzero (combination (formatAt a .dataLength) l))) same (map-table (dataOf (formatAt a)) (a .members) (blockOf (formatAt a) bytes))))
+      ∙ ap₂ (λ (members : List ℕ) (l : List (List ℕ)). judged members (nonzero (combination (formatAt a .dataLength) l))) same (map-table (dataOf (formatAt a)) (a .members) (blockOf (formatAt a) bytes))))
 
   -- the same from what the loops find
-  pub scrub-found : (low many : ℕ) (together : List ℕ) → low ≡ lowest (badBlocks a s bytes) → many ≡ count (badBlocks a s bytes)
-      → together ≡ othersData (formatAt a) (a .members) (a .members) bytes → scrubNumbers a s bytes ≡ 1 ∷ 0 ∷ judgedBy low many (nonzero together)
-  unfolding judged badBlocks othersData
-  scrub-found low many together l c d =
+  pub scrub-found : (members together : List ℕ) → members ≡ standings a s bytes
+      → together ≡ othersData (formatAt a) (a .members) (a .members) bytes → scrubNumbers a s bytes ≡ 1 ∷ 0 ∷ judged members (nonzero together)
+  unfolding standings othersData
+  scrub-found members together l d =
       let n = a .members in
-      let all : together ≡ combination (formatAt a .dataLength) (memberData (formatAt a) n bytes) =
+      let all : together ≡ storedTogether a s bytes =
       d ∙ ap (combination (formatAt a .dataLength)) (others-past n (memberData (formatAt a) n bytes) (omega (arith, length-table n (λ m. dataOf (formatAt a) (blockOf (formatAt a) bytes m))))) in
-      scrub-answered
-      ∙ sym (ap₂ (λ (x y : ℕ). 1 ∷ 0 ∷ judgedBy x y (nonzero together)) l c
-      ∙ ap (λ (x : List ℕ). 1 ∷ 0 ∷ judged (badBlocks a s bytes) (nonzero x)) all)
+      scrub-answered ∙ sym (ap₂ (λ (x y : List ℕ). 1 ∷ 0 ∷ judged x (nonzero y)) l all)
 
-  answered : (numbers : List ℕ) → (scrubNumbers a s bytes ≡ 1 ∷ 0 ∷ numbers)
-      ↔ (judgement (λ m. good a s m (blockOf (formatAt a) bytes m)) (a .members) (combination (formatAt a .dataLength) (memberData (formatAt a) (a .members) bytes)) ≡ numbers)
+  answered : (numbers : List ℕ) → (scrubNumbers a s bytes ≡ 1 ∷ 0 ∷ numbers) ↔ (judgement (storedAs a s bytes) (a .members) (storedTogether a s bytes) ≡ numbers)
   answered numbers =
-      let numbers-found = judgement (λ m. good a s m (blockOf (formatAt a) bytes m)) (a .members) (combination (formatAt a .dataLength) (memberData (formatAt a) (a .members) bytes)) in
+      let numbers-found = judgement (storedAs a s bytes) (a .members) (storedTogether a s bytes) in
       (λ e. rest numbers-found numbers (sym scrub-answered ∙ e), λ e. scrub-answered ∙ ap (λ (l : List ℕ). 1 ∷ 0 ∷ l) e)
     where
       rest : (l k : List ℕ) → 1 ∷ 0 ∷ l ≡ 1 ∷ 0 ∷ k → l ≡ k
       rest l k e = cc
 
+  few : (m : ℕ) → storedAs a s bytes m ≤ 2
+  few m = stands-few a s m (blockOf (formatAt a) bytes m)
+
   pub scrub-clean : (scrubNumbers a s bytes ≡ 1 ∷ 0 ∷ 0 ∷ 0 ∷ 0 ∷ [])
       ↔ (((m : ℕ) → m < a .members → good a s m (blockOf (formatAt a) bytes m) ≡ true) × (combination (formatAt a .dataLength) (memberData (formatAt a) (a .members) bytes) ≡ replicate (formatAt a .dataLength) 0))
   scrub-clean =
       Iff·trans (answered (0 ∷ 0 ∷ 0 ∷ []))
-      (clean-exactly (λ m. good a s m (blockOf (formatAt a) bytes m)) (a .members) (combination (formatAt a .dataLength) (memberData (formatAt a) (a .members) bytes)) (formatAt a .dataLength)
-      (length-combination (formatAt a .dataLength) (memberData (formatAt a) (a .members) bytes)))
+      (clean-exactly (storedAs a s bytes) (a .members) (storedTogether a s bytes) few (formatAt a .dataLength) (length-combination (formatAt a .dataLength) (memberData (formatAt a) (a .members) bytes)))
 
   pub scrub-bad : (member bads : ℕ) → (scrubNumbers a s bytes ≡ 1 ∷ 0 ∷ 1 ∷ member ∷ bads ∷ [])
-      ↔ (FirstFailing (λ m. good a s m (blockOf (formatAt a) bytes m)) (a .members) member × (bads ≡ count (table (a .members) (λ m. bad a s m (blockOf (formatAt a) bytes m)))))
-  scrub-bad member bads =
-      Iff·trans (answered (1 ∷ member ∷ bads ∷ []))
-      (bad-exactly (λ m. good a s m (blockOf (formatAt a) bytes m)) (a .members) (combination (formatAt a .dataLength) (memberData (formatAt a) (a .members) bytes)) member bads)
+      ↔ (FirstMember (λ m. bad a s m (blockOf (formatAt a) bytes m)) (a .members) member × (bads ≡ count (table (a .members) (λ m. bad a s m (blockOf (formatAt a) bytes m)))))
+  scrub-bad member bads = Iff·trans (answered (1 ∷ member ∷ bads ∷ [])) (bad-exactly (storedAs a s bytes) (a .members) (storedTogether a s bytes) member bads)
+
+  pub scrub-unchecked : (member many : ℕ) → (scrubNumbers a s bytes ≡ 1 ∷ 0 ∷ 3 ∷ member ∷ many ∷ [])
+      ↔ (((m : ℕ) → m < a .members → bad a s m (blockOf (formatAt a) bytes m) ≡ false) × FirstMember (λ m. unchecked a s m (blockOf (formatAt a) bytes m)) (a .members) member
+      × (many ≡ count (table (a .members) (λ m. unchecked a s m (blockOf (formatAt a) bytes m)))))
+  scrub-unchecked member many = Iff·trans (answered (3 ∷ member ∷ many ∷ [])) (unchecked-exactly (storedAs a s bytes) (a .members) (storedTogether a s bytes) member many)
 
   pub scrub-torn : (place : ℕ) → (scrubNumbers a s bytes ≡ 1 ∷ 0 ∷ 2 ∷ place ∷ 0 ∷ [])
       ↔ (((m : ℕ) → m < a .members → good a s m (blockOf (formatAt a) bytes m) ≡ true) × FirstNonzero (combination (formatAt a .dataLength) (memberData (formatAt a) (a .members) bytes)) place)
   scrub-torn place =
-      Iff·trans (answered (2 ∷ place ∷ 0 ∷ []))
-      (torn-exactly (λ m. good a s m (blockOf (formatAt a) bytes m)) (a .members) (combination (formatAt a .dataLength) (memberData (formatAt a) (a .members) bytes)) place)
+      Iff·trans (answered (2 ∷ place ∷ 0 ∷ [])) (torn-exactly (storedAs a s bytes) (a .members) (storedTogether a s bytes) few place)

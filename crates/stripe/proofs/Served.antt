@@ -1,12 +1,12 @@
 -- A verified read: what it answers and leaves in the buffer in each case, first of the block at a place, then of a block of the array.
--- The last three laws are what a reader of the array relies on. Assumes nothing.
+-- The last four laws are what a reader of the array relies on. Assumes nothing.
 use mathlib.Core.Path.{_≡_, refl, sym, ap, ap₂, _∙_}
 use mathlib.Core.Logic.{_≢_}
-use mathlib.Core.Bool.{Bool, true, false, cond}
+use mathlib.Core.Bool.{Bool, true, false}
 use mathlib.Core.List.{List, [], _∷_, _++_, append-nil}
 use Prim.Native.Nat.{ℕ, zero, suc, _+_, _-_, _*_, _≤_, _<_}
 use native.Mathlib.Omega.{arith}
-use borrow.Author.Tests.{eq-eqb, ne-eqb}
+use borrow.Author.Tests.{eqb-true, eq-eqb, ne-eqb}
 use lib.ListN.{length, take, drop, drop-of-length-le}
 use lib.Seq.{sets, sets-eq, take-take}
 use Rattle.layout.specs.Answers.{answer}
@@ -16,9 +16,10 @@ use Rattle.layout.specs.declared.Array.{Array}
 use Rattle.layout.proofs.Bijection.{place-refusal}
 use Rattle.format.specs.Formats.{Format}
 use Rattle.tag.specs.Blocks.{formatAt, dataOf}
+use Rattle.tag.specs.Tags.{standingAt, unchecked}
 use Rattle.stripe.specs.Tables.{span}
 use Rattle.stripe.specs.Stripes.{stripeLength, blockOf, othersGood, othersData}
-use Rattle.stripe.specs.Jobs.{unlessRefused, storedGood, serveRefusal, servedData, readRefusal, readNumbers, readOut, Reads}
+use Rattle.stripe.specs.Jobs.{unlessRefused, storedGood, storedBad, serveRefusal, servedData, readRefusal, readNumbers, readOut, Reads}
 use Rattle.tag.proofs.Tagged.{length-data}
 use Rattle.stripe.proofs.Rows.{lent-span, length-span}
 use Rattle.stripe.proofs.Guards.{data-span}
@@ -44,7 +45,7 @@ filled-with-data F member from size bytes out left here same h room e =
     e ∙ ap (sets out 0) (lent-data F member from size bytes here same)
     ∙ sets-whole out (dataOf F (blockOf F bytes member)) (room ∙ sym (length-data F (blockOf F bytes member) (length-span (F .blockLength * member) (F .blockLength) bytes h)))
 
--- one bad member is enough
+-- one member that is not good is enough
 pub bad-other : (a : Array) (stripe skip : ℕ) (bytes : List ℕ) (k : ℕ) → k < a .members → k ≢ skip → storedGood a stripe k bytes ≡ false → othersGood a stripe skip bytes ≡ false
 bad-other a stripe skip bytes k h other bad = by-flag (othersGood a stripe skip bytes) refl
   where
@@ -58,7 +59,7 @@ module _ (a : Array) (stripe member : ℕ) (bytes out : List ℕ) where
   -- the answer of a read there, and what it leaves in the buffer
   abbrev pub Serves : List ℕ → List ℕ → Type 0
   Serves numbers left =
-      (numbers ≡ answer (serveRefusal a stripe member bytes (length out)) (cond (storedGood a stripe member bytes) 0 1 ∷ []))
+      (numbers ≡ answer (serveRefusal a stripe member bytes (length out)) (standingAt a stripe member (blockOf (formatAt a) bytes member) ∷ []))
       × (left ≡ unlessRefused (serveRefusal a stripe member bytes (length out)) (servedData a stripe member bytes) out)
 
   serve-refused : (n : ℕ) → serveRefusal a stripe member bytes (length out) ≡ suc n → Serves (0 ∷ suc n ∷ 0 ∷ []) out
@@ -74,14 +75,17 @@ module _ (a : Array) (stripe member : ℕ) (bytes out : List ℕ) where
     serve-other-out h = serve-refused 5 (rw (eq-eqb (length bytes) (stripeLength a) long, ne-eqb (length out) (formatAt a .dataLength) h))
 
     module _ (room : length out ≡ (formatAt a .dataLength)) where
-      pub serve-stored : (left : List ℕ) → storedGood a stripe member bytes ≡ true → left ≡ dataOf (formatAt a) (blockOf (formatAt a) bytes member) → Serves (1 ∷ 0 ∷ 0 ∷ []) left
+      -- a block that is not bad is served as it stands
+      pub serve-stored : (left : List ℕ) (how : ℕ) → standingAt a stripe member (blockOf (formatAt a) bytes member) ≡ how → how ≢ 1
+          → left ≡ dataOf (formatAt a) (blockOf (formatAt a) bytes member) → Serves (1 ∷ 0 ∷ how ∷ []) left
       unfolding serveRefusal servedData
-      serve-stored left good e =
+      serve-stored left how stands ne e =
           let l = eq-eqb (length bytes) (stripeLength a) long in
           let r = eq-eqb (length out) (formatAt a .dataLength) room in
-          (rw (l, r, good), rw (l, r, good) e)
+          let other = ne-eqb how 1 ne in
+          (rw (l, r, stands, other), rw (l, r, stands, other) e)
 
-      module _ (bad : storedGood a stripe member bytes ≡ false) where
+      module _ (bad : standingAt a stripe member (blockOf (formatAt a) bytes member) ≡ 1) where
         pub serve-rebuilt : (left : List ℕ) → othersGood a stripe member bytes ≡ true → left ≡ othersData (formatAt a) (a .members) member bytes → Serves (1 ∷ 0 ∷ 1 ∷ []) left
         unfolding serveRefusal servedData
         serve-rebuilt left good e =
@@ -139,7 +143,7 @@ module _ (a : Array) (block : ℕ) (bytes out : List ℕ) where
       let m = p .on-member in
       (rw (r, ← m, ← i) (s .0), rw (r, ← m, ← i) (s .1))
 
-  -- ---- nothing is refused before the block is looked at: stored, rebuilt, or refused with the buffer as it was
+  -- ---- nothing is refused before the block is looked at: stored, unchecked, rebuilt, or refused with the buffer as it was
 
   module _ (taken : blockRefusal a block ≡ 0) (long : length bytes ≡ stripeLength a) (room : length out ≡ (formatAt a .dataLength)) where
     own : PlacedAt a block (stripeOf a block) (memberOf a block)
@@ -150,19 +154,27 @@ module _ (a : Array) (block : ℕ) (bytes out : List ℕ) where
     read-stored good =
         let s = stripeOf a block in
         let m = memberOf a block in
-        read-served s m (1 ∷ 0 ∷ 0 ∷ []) (dataOf (formatAt a) (blockOf (formatAt a) bytes m)) own (serve-stored a s m bytes out long room (dataOf (formatAt a) (blockOf (formatAt a) bytes m)) good refl)
+        read-served s m (1 ∷ 0 ∷ 0 ∷ []) (dataOf (formatAt a) (blockOf (formatAt a) bytes m)) own (serve-stored a s m bytes out long room (dataOf (formatAt a) (blockOf (formatAt a) bytes m)) 0 (eqb-true _ 0 good) (λ e. omega arith) refl)
 
-    module _ (bad : storedGood a (stripeOf a block) (memberOf a block) bytes ≡ false) where
+    -- and so is an unchecked one, which the answer tells
+    pub read-unchecked : unchecked a (stripeOf a block) (memberOf a block) (blockOf (formatAt a) bytes (memberOf a block)) ≡ true
+        → Reads a block bytes out (1 ∷ 0 ∷ 2 ∷ []) (dataOf (formatAt a) (blockOf (formatAt a) bytes (memberOf a block)))
+    read-unchecked marked =
+        let s = stripeOf a block in
+        let m = memberOf a block in
+        read-served s m (1 ∷ 0 ∷ 2 ∷ []) (dataOf (formatAt a) (blockOf (formatAt a) bytes m)) own (serve-stored a s m bytes out long room (dataOf (formatAt a) (blockOf (formatAt a) bytes m)) 2 (eqb-true _ 2 marked) (λ e. omega arith) refl)
+
+    module _ (bad : storedBad a (stripeOf a block) (memberOf a block) bytes ≡ true) where
       pub read-rebuilt : ((m : ℕ) → m < a .members → m ≢ memberOf a block → storedGood a (stripeOf a block) m bytes ≡ true)
           → Reads a block bytes out (1 ∷ 0 ∷ 1 ∷ []) (othersData (formatAt a) (a .members) (memberOf a block) bytes)
       read-rebuilt others =
           let s = stripeOf a block in
           let m = memberOf a block in
           let made = othersData (formatAt a) (a .members) m bytes in
-          read-served s m (1 ∷ 0 ∷ 1 ∷ []) made own (serve-rebuilt a s m bytes out long room bad made (good-others a s m bytes others) refl)
+          read-served s m (1 ∷ 0 ∷ 1 ∷ []) made own (serve-rebuilt a s m bytes out long room (eqb-true _ 1 bad) made (good-others a s m bytes others) refl)
 
       pub read-damaged : (k : ℕ) → k < a .members → k ≢ memberOf a block → storedGood a (stripeOf a block) k bytes ≡ false → Reads a block bytes out (0 ∷ 9 ∷ 0 ∷ []) out
       read-damaged k h other too =
           let s = stripeOf a block in
           let m = memberOf a block in
-          read-served s m (0 ∷ 9 ∷ 0 ∷ []) out own (serve-damaged a s m bytes out long room bad (bad-other a s m bytes k h other too))
+          read-served s m (0 ∷ 9 ∷ 0 ∷ []) out own (serve-damaged a s m bytes out long room (eqb-true _ 1 bad) (bad-other a s m bytes k h other too))

@@ -142,11 +142,11 @@ module _ (size zeros x : ℕ) (rest : List ℕ) (data-size : size ≡ (formatAt 
       let F = formatAt bench in
       let all = combinedGuards (map (storedGuard F) (tornBlocks size zeros (x ∷ rest))) in
       sym (ap (bitXor all) (spare-even F 4 refl) ∙ xor-zero-r all)
-      ∙ guards-combined bench 0 (tornBlocks size zeros (x ∷ rest)) bench-sound whole none-bad ∙ ap (wide F) combined ∙ narrowed (zerosThen zeros (x ∷ rest))
+      ∙ guards-combined bench 0 (tornBlocks size zeros (x ∷ rest)) bench-sound whole (other 1 (λ e. omega arith)) (other 3 (λ e. omega arith)) ∙ ap (wide F) combined ∙ narrowed (zerosThen zeros (x ∷ rest))
       ∙ run-joined 0 (replicate zeros 0) (x ∷ rest) ∙ ap (λ (r : ℕ). run r (x ∷ rest)) (guard-zeros zeros)
     where
-      none-bad : getD (scrubBlocks bench 0 (tornBlocks size zeros (x ∷ rest))) 0 0 ≢ 1
-      none-bad e = let two : _≡_ {A = ℕ} 2 1 = sym (ap (λ (l : List ℕ). getD l 0 0) torn-there) ∙ e in omega arith
+      other : (k : ℕ) → 2 ≢ k → getD (scrubBlocks bench 0 (tornBlocks size zeros (x ∷ rest))) 0 0 ≢ k
+      other k ne e = ne (sym (ap (λ (l : List ℕ). getD l 0 0) torn-there) ∙ e)
 
   -- ---- a rebuild of a data member, whose data are zeros: what comes back is the parity's ending, in a block that is good
 

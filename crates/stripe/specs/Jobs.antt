@@ -2,7 +2,7 @@
 -- At a refusal a buffer holds what it held. Assumes nothing.
 use Prim.Native.Nat.{ℕ, _*_}
 use mathlib.Core.Path.{_≡_}
-use mathlib.Core.Bool.{Bool, not, cond, _&&_, _||_}
+use mathlib.Core.Bool.{Bool, not, cond, _&&_}
 use mathlib.Core.List.{List, [], _∷_}
 use lib.Dec.{eqb}
 use lib.ListN.{length}
@@ -14,11 +14,11 @@ use Rattle.layout.specs.Places.{parityMember, stripeOf, memberOf, indexAt, isPa
 use Rattle.layout.specs.declared.Array.{Array}
 use Rattle.format.specs.Formats.{Format}
 use Rattle.tag.specs.Blocks.{formatAt, dataOf}
-use Rattle.tag.specs.Tags.{good, tagged}
+use Rattle.tag.specs.Tags.{standingAt, good, bad, tagged}
 use Rattle.stripe.specs.Tables.{table, joined, part}
 use Rattle.stripe.specs.Stripes.{stripeLength, blockOf, othersGood, othersData}
 use Rattle.stripe.specs.declared.Reading.{Reading}
-use Rattle.stripe.specs.declared.Reading.the-variants.{Refused, Stored, Rebuilt}
+use Rattle.stripe.specs.declared.Reading.the-variants.{Refused, Stored, Rebuilt, Unchecked}
 
 -- a buffer after a call: changed where the call is done, as it was where it is refused
 abbrev pub unlessRefused : ℕ → List ℕ → List ℕ → List ℕ
@@ -47,31 +47,37 @@ sealed a stripe bytes = joined (table (a .members) (λ m. tagged a stripe m (sea
 unfoldable pub sealBytes : Array → ℕ → List ℕ → List ℕ → List ℕ
 sealBytes a stripe bytes old = unlessRefused (sealRefusal a stripe (length bytes) (length old)) (sealed a stripe bytes) old
 
--- ---- read: a block's data, verified; stored, or rebuilt from the other members where the block is bad and they are good
+-- ---- read: a block's data, verified; stored, or rebuilt from the other members where the block is bad and they are good; the data of an
+-- unchecked block as they stand
 
 abbrev pub storedGood : Array → ℕ → ℕ → List ℕ → Bool
 storedGood a stripe member bytes = good a stripe member (blockOf (formatAt a) bytes member)
+
+abbrev pub storedBad : Array → ℕ → ℕ → List ℕ → Bool
+storedBad a stripe member bytes = bad a stripe member (blockOf (formatAt a) bytes member)
 
 -- of the block at a place: refusals 6 and 9, and the data that are served
 unfoldable pub serveRefusal : Array → ℕ → ℕ → List ℕ → ℕ → ℕ
 serveRefusal a stripe member bytes outBytes =
     refuse (not (eqb (length bytes) (stripeLength a) && eqb outBytes (formatAt a .dataLength))) 6
-    (refuse (not (storedGood a stripe member bytes || othersGood a stripe member bytes)) 9 0)
+    (refuse (storedBad a stripe member bytes && not (othersGood a stripe member bytes)) 9 0)
 
 unfoldable pub servedData : Array → ℕ → ℕ → List ℕ → List ℕ
-servedData a stripe member bytes = cond (storedGood a stripe member bytes) (dataOf (formatAt a) (blockOf (formatAt a) bytes member)) (othersData (formatAt a) (a .members) member bytes)
+servedData a stripe member bytes = cond (storedBad a stripe member bytes) (othersData (formatAt a) (a .members) member bytes) (dataOf (formatAt a) (blockOf (formatAt a) bytes member))
 
 unfoldable pub readRefusal : Array → ℕ → List ℕ → ℕ → ℕ
 readRefusal a block bytes outBytes = after (blockRefusal a block) (serveRefusal a (stripeOf a block) (memberOf a block) bytes outBytes)
 
+-- in numbers: 0 stored, 1 rebuilt, 2 unchecked, as the block stands good, bad or unchecked
 unfoldable pub readNumbers : Array → ℕ → List ℕ → ℕ → List ℕ
 readNumbers a block bytes outBytes =
-    answer (readRefusal a block bytes outBytes) (cond (storedGood a (stripeOf a block) (memberOf a block) bytes) 0 1 ∷ [])
+    answer (readRefusal a block bytes outBytes) (standingAt a (stripeOf a block) (memberOf a block) (blockOf (formatAt a) bytes (memberOf a block)) ∷ [])
 
 abbrev pub readingNumbers : Reading → List ℕ
 readingNumbers (Refused number) = 0 ∷ number ∷ 0 ∷ []
 readingNumbers Stored = 1 ∷ 0 ∷ 0 ∷ []
 readingNumbers Rebuilt = 1 ∷ 0 ∷ 1 ∷ []
+readingNumbers Unchecked = 1 ∷ 0 ∷ 2 ∷ []
 
 unfoldable pub readOut : Array → ℕ → List ℕ → List ℕ → List ℕ
 readOut a block bytes old =

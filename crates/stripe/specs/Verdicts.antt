@@ -10,22 +10,22 @@ use Rattle.layout.specs.Arrays.{stripeRefusal}
 use Rattle.layout.specs.declared.Array.{Array}
 use Rattle.format.specs.Formats.{Format}
 use Rattle.tag.specs.Blocks.{formatAt, tagOf}
-use Rattle.tag.specs.Tags.{found, due, fits}
+use Rattle.tag.specs.Tags.{found, due, standing}
 use Rattle.verdict.specs.Verdicts.{nonzero, judged}
 use Rattle.stripe.specs.Tables.{table}
 use Rattle.stripe.specs.Stripes.{stripeLength, blockOf}
 use Rattle.stripe.specs.Formats.{Summary, summaryOf}
 
--- which members are bad: their tag is not the one due to their guard at their place
-unfoldable pub badMembers : Array → ℕ → Summary → List Bool
-badMembers a stripe s = table (a .members) (λ m. not (fits (found (formatAt a) (getD (s .tags) m [])) (due a stripe m (getD (s .guards) m 0))))
+-- how the members stand: by their tag, and the one due to their guard at their place
+unfoldable pub standingMembers : Array → ℕ → Summary → List ℕ
+standingMembers a stripe s = table (a .members) (λ m. standing (formatAt a) (found (formatAt a) (getD (s .tags) m [])) (due a stripe m (getD (s .guards) m 0)))
 
 -- which places of the combination are not zero
 unfoldable pub tornPlaces : Summary → List Bool
 tornPlaces s = nonzero (s .combined)
 
 abbrev pub verdict : Array → ℕ → Summary → List ℕ
-verdict a stripe s = judged (badMembers a stripe s) (tornPlaces s)
+verdict a stripe s = judged (standingMembers a stripe s) (tornPlaces s)
 
 -- ---- the full scrub of whole blocks, in member order, and of a stripe in memory
 
@@ -41,15 +41,15 @@ scrubNumbers a stripe bytes =
 
 -- ---- what a scrub is proved to tell
 
--- the answer that a stripe is clean: done, no refusal, no bad member, no torn place
+-- the answer that a stripe is clean: done, no refusal, no member bad or unchecked, no torn place
 abbrev pub clean : List ℕ
 clean = 1 ∷ 0 ∷ 0 ∷ 0 ∷ 0 ∷ []
 
--- f fails at m, and holds at each place below
-pub record FirstFailing (f : ℕ → Bool) (n m : ℕ) : Type 0 where
+-- f holds of m, a member of n, and of none below it
+pub record FirstMember (f : ℕ → Bool) (n m : ℕ) : Type 0 where
   pub inside : m < n
-  pub fails : f m ≡ false
-  pub holds-below : (k : ℕ) → k < m → f k ≡ true
+  pub holds : f m ≡ true
+  pub none-below : (k : ℕ) → k < m → f k ≡ false
 
 -- ---- what the quick scrub is given
 

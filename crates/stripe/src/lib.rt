@@ -21,23 +21,23 @@ ghost use Rattle.layout.specs.Places.{ownerRefusal};
 ghost use Rattle.format.specs.Formats.{guard, guardsOf};
 ghost use Rattle.format.specs.Methods.{formatOf};
 ghost use Rattle.tag.specs.Blocks.{formatAt, dataOf};
-ghost use Rattle.tag.specs.Tags.{good, tagged};
+ghost use Rattle.tag.specs.Tags.{standingAt, good, tagged};
 ghost use Rattle.stripe.specs.Stripes.{stripeLength, blockOf, goodMembers, othersGood, othersData};
 ghost use Rattle.stripe.specs.Jobs.{withBlock};
 use copy::put;
 use format::METHOD;
-ghost use Rattle.stripe.specs.Steps.{saysGood};
 use layout::Array;
-use tag::Checked;
+use tag::GOOD;
 
 // Bytes of a row: what stays in registers while the members go by.
 const ROW: usize = 128;
 
-// What a verified read says: the block's own data, or data rebuilt from the other members.
+// What a verified read says: the block's own data, data rebuilt from the other members, or the data of a block that is not to be checked.
 pub enum Reading {
     Refused(u8),
     Stored,
     Rebuilt,
+    Unchecked,
 }
 
 // Where a member's block begins.
@@ -83,26 +83,30 @@ fn combined(method: u8, bytes: &[u8], members: usize, skip: usize, out: &mut [u8
     }
 }
 
-// Whether a check found the block good.
-fn says_good(checked: Checked) -> bool
-    ensures { λ r. ⌜ r ≡ saysGood checked ⌝ }
+// How a member's block stands at its place, by the guard of its data.
+fn standing_by(array: Array, stripe: u64, bytes: &[u8], member: usize, data_guard: u32) -> u8
+    requires { ⌜ ownerRefusal array stripe member ≡ 0 ⌝ }
+    requires { ⌜ formatAt array .blockLength * member + formatAt array .blockLength ≤ length (now bytes) ⌝ }
+    requires { ⌜ data_guard ≡ guard (formatAt array) (dataOf (formatAt array) (blockOf (formatAt array) (now bytes) member)) ⌝ }
+    ensures { λ r. ⌜ r ≡ standingAt array stripe member (blockOf (formatAt array) (now (bytes .entry)) member) ⌝ }
 {
-    match checked {
-        Checked::Refused(_) => false,
-        Checked::Good => true,
-        Checked::Guard {
-            found: _,
-            expected: _,
-        } => false,
-        Checked::Application {
-            found: _,
-            expected: _,
-        } => false,
-        Checked::Reference {
-            found: _,
-            expected: _,
-        } => false,
-    }
+    let method = METHOD;
+    let at = block_at(method, member) + format::data_length(method);
+    let expected = tag::due(array, stripe, member, data_guard);
+    tag::standing(method, tag::found(method, bytes, at), expected)
+}
+
+// The same, with the guard of its data taken.
+fn standing(array: Array, stripe: u64, bytes: &[u8], member: usize) -> u8
+    requires { ⌜ ownerRefusal array stripe member ≡ 0 ⌝ }
+    requires { ⌜ formatAt array .blockLength * member + formatAt array .blockLength ≤ length (now bytes) ⌝ }
+    ensures { λ r. ⌜ r ≡ standingAt array stripe member (blockOf (formatAt array) (now (bytes .entry)) member) ⌝ }
+{
+    let method = METHOD;
+    let from = block_at(method, member);
+    let end = from + format::data_length(method);
+    let data_guard = format::guard(method, &bytes[from..end]);
+    standing_by(array, stripe, bytes, member, data_guard)
 }
 
 // Whether a member's block is good at its place.
@@ -111,23 +115,7 @@ fn is_good(array: Array, stripe: u64, bytes: &[u8], member: usize) -> bool
     requires { ⌜ formatAt array .blockLength * member + formatAt array .blockLength ≤ length (now bytes) ⌝ }
     ensures { λ r. ⌜ r ≡ good array stripe member (blockOf (formatAt array) (now (bytes .entry)) member) ⌝ }
 {
-    let method = METHOD;
-    let from = block_at(method, member);
-    let end = from + format::block_length(method);
-    says_good(tag::check(array, stripe, member, &bytes[from..end]))
-}
-
-// The same, by the guard of the block's data.
-fn is_good_by(array: Array, stripe: u64, bytes: &[u8], member: usize, data_guard: u32) -> bool
-    requires { ⌜ ownerRefusal array stripe member ≡ 0 ⌝ }
-    requires { ⌜ formatAt array .blockLength * member + formatAt array .blockLength ≤ length (now bytes) ⌝ }
-    requires { ⌜ data_guard ≡ guard (formatAt array) (dataOf (formatAt array) (blockOf (formatAt array) (now bytes) member)) ⌝ }
-    ensures { λ r. ⌜ r ≡ good array stripe member (blockOf (formatAt array) (now (bytes .entry)) member) ⌝ }
-{
-    let method = METHOD;
-    let at = block_at(method, member) + format::data_length(method);
-    let expected = tag::due(array, stripe, member, data_guard);
-    tag::is_due(tag::found(method, bytes, at), expected)
+    standing(array, stripe, bytes, member) == GOOD
 }
 
 // Whether a member with this guard of its data is good, or is the one left out.
@@ -147,7 +135,7 @@ fn passes(
     if member == skip {
         return true;
     }
-    is_good_by(array, stripe, bytes, member, data_guard)
+    standing_by(array, stripe, bytes, member, data_guard) == GOOD
 }
 
 // Whether every member but `skip` is good, by the guards of the members' data.

@@ -3,24 +3,28 @@ ghost use mathlib.Core.Path.{_≡_};
 ghost use Prim.Native.Nat.{_+_, _*_};
 ghost use lib.ListN.{length};
 ghost use mathlib.Core.List.{[], _∷_};
-ghost use mathlib.Core.Bool.{cond};
 ghost use Rattle.layout.specs.Answers.{answer};
 ghost use Rattle.layout.specs.Places.{ownerRefusal};
-ghost use Rattle.stripe.specs.Jobs.{storedGood, serveRefusal, servedData, unlessRefused, readNumbers, readingNumbers, readOut};
+ghost use Rattle.tag.specs.Blocks.{formatAt};
+ghost use Rattle.tag.specs.Tags.{standingAt};
+ghost use Rattle.stripe.specs.Stripes.{blockOf};
+ghost use Rattle.stripe.specs.Jobs.{serveRefusal, servedData, unlessRefused, readNumbers, readingNumbers, readOut};
 use crate::Reading;
 use crate::block_at;
 use crate::combined;
-use crate::is_good;
 use crate::others_good;
+use crate::standing;
 use copy::put;
 use format::METHOD;
 use layout::Array;
 use layout::Placed;
+use tag::BAD;
+use tag::UNCHECKED;
 
-// The data of the block at a place: its own where it is good, else those of the others where they are.
+// The data of the block at a place: its own unless it is bad, else those of the others where they are good.
 fn serve(array: Array, stripe: u64, member: usize, bytes: &[u8], out: &mut [u8]) -> Reading
     requires { ⌜ ownerRefusal array stripe member ≡ 0 ⌝ }
-    ensures { λ r. ⌜ readingNumbers r ≡ answer (serveRefusal array stripe member (now (bytes .entry)) (length (now (out .entry)))) (cond (storedGood array stripe member (now (bytes .entry))) 0 1 ∷ []) ⌝ }
+    ensures { λ r. ⌜ readingNumbers r ≡ answer (serveRefusal array stripe member (now (bytes .entry)) (length (now (out .entry)))) (standingAt array stripe member (blockOf (formatAt array) (now (bytes .entry)) member) ∷ []) ⌝ }
     ensures { λ _. ⌜ now (out .exit) ≡ unlessRefused (serveRefusal array stripe member (now (bytes .entry)) (length (now (out .entry)))) (servedData array stripe member (now (bytes .entry))) (now (out .entry)) ⌝ }
 {
     let members = array.members;
@@ -31,10 +35,14 @@ fn serve(array: Array, stripe: u64, member: usize, bytes: &[u8], out: &mut [u8])
     if out.len() != format::data_length(method) {
         return Reading::Refused(6);
     }
-    if is_good(array, stripe, bytes, member) {
+    let standing = standing(array, stripe, bytes, member);
+    if standing != BAD {
         let from = block_at(method, member);
         let end = from + format::data_length(method);
         put(out, 0, &bytes[from..end]);
+        if standing == UNCHECKED {
+            return Reading::Unchecked;
+        }
         return Reading::Stored;
     }
     let guards = format::guards(method, bytes, format::block_length(method));

@@ -1,20 +1,25 @@
 -- Tags byte by byte, computed from the definitions, and which bytes of a block each field is: the order of the fields, the order of their
 -- bytes and the parity's mark are told here in figures, which no definition shares. Assumes nothing.
-use mathlib.Core.Path.{_≡_, refl}
+use mathlib.Core.Path.{_≡_, refl, sym, _∙_}
+use mathlib.Core.Bool.{true}
+use mathlib.Core.Logic.{_↔_}
 use mathlib.Core.List.{List, [], _∷_}
-use Prim.Native.Nat.{ℕ, _+_, _*_}
+use Prim.Native.Nat.{ℕ, _+_, _*_, _<_}
+use native.Mathlib.Nat.{div-one}
 use native.Mathlib.Omega.{arith}
+use borrow.Author.Tests.{eqb-true, eq-eqb}
 use lib.ListN.{length, getD}
 use lib.Seq.{drop-drop}
+use Rattle.crc.specs.Crc.{Bytes}
 use Rattle.format.specs.Methods.{formatOf}
 use Rattle.layout.specs.Arrays.{arrayOf}
 use Rattle.layout.specs.Places.{parityMember, lowestBlock, blockAt, indexAt, blockNamed, referenceOf}
 use Rattle.layout.specs.declared.Array.{Array}
 use Rattle.tag.specs.Numbers.{bytesOf}
 use Rattle.tag.specs.Blocks.{tagOf}
-use Rattle.tag.specs.Tags.{tagBytes, found, applicationDue, referenceDue, due, firstWrong, checkedNumbers}
+use Rattle.tag.specs.Tags.{tagBytes, found, applicationDue, referenceDue, due, fits, exempt, standing, firstWrong, told, checkedNumbers}
 use Rattle.tag.specs.declared.Fields.{Fields}
-use Rattle.tag.specs.declared.Checked.the-variants.{Good, Guard, Application, Reference}
+use Rattle.tag.specs.declared.Checked.the-variants.{Good, Guard, Application, Reference, Unchecked}
 use Rattle.tag.proofs.Numbers.{take-elements, number-of-two, number-of-four}
 
 -- ---- the sealed stripe of the outline: three members, volume 7, stripe 0; its parity, then its two blocks
@@ -54,6 +59,17 @@ module _ (block : List ℕ) (long : length block ≡ formatOf 1 .blockLength) wh
       rw (drop-drop 4 512 block, take-elements block 516 0 4 (omega arith))
       (number-of-four (getD block 516 0) (getD block 517 0) (getD block 518 0) (getD block 519 0))
 
+  -- not to be checked: bytes 514 and 515 are both FFh, whatever else the block holds
+  pub exempt-stands : Bytes block → (exempt (formatOf 1) (found (formatOf 1) (tagOf (formatOf 1) block)) ≡ true) ↔ ((getD block 514 0 ≡ 0xFF) × (getD block 515 0 ≡ 0xFF))
+  unfolding exempt formatOf
+  exempt-stands bytes = (
+    λ h. let e = sym application-stands ∙ sym (div-one _) ∙ eqb-true _ 0xFFFF h in (omega (arith, e, small 514, small 515), omega (arith, e, small 514, small 515)),
+    λ h. eq-eqb _ 0xFFFF (div-one _ ∙ application-stands ∙ omega (arith, h .0, h .1)),
+  )
+    where
+      small : (i : ℕ) → getD block i 0 < 256
+      small i = bytes i
+
 -- ---- which field a check names first: 1 guard, 2 application tag, 3 reference tag; then what was found, then what was due
 
 abbrev fields : ℕ → ℕ → ℕ → Fields
@@ -66,6 +82,13 @@ pub wrong-fields : (firstWrong (fields 5 6 7) (fields 1 2 3) ≡ 1 ∷ 5 ∷ 1 �
 unfolding firstWrong
 wrong-fields = (refl, refl, refl, refl)
 
+-- a mark goes before every field; the same tag without it has three wrong fields
+pub told-fields : (told (formatOf 1) (fields 5 0xFFFF 7) (fields 1 2 3) ≡ 4 ∷ 0 ∷ 0 ∷ []) × (told (formatOf 1) (fields 5 0xFF00 7) (fields 1 2 3) ≡ 1 ∷ 5 ∷ 1 ∷ [])
+    × (standing (formatOf 1) (fields 1 0xFFFF 3) (fields 1 2 3) ≡ 2) × (standing (formatOf 1) (fields 1 0xFFFE 3) (fields 1 2 3) ≡ 1) × (standing (formatOf 1) (fields 1 2 3) (fields 1 2 3) ≡ 0)
+unfolding formatOf exempt told firstWrong standing fits
+told-fields = (refl, refl, refl, refl, refl)
+
 pub check-names : (checkedNumbers Good ≡ 1 ∷ 0 ∷ 0 ∷ 0 ∷ 0 ∷ []) × (checkedNumbers (Guard 5 1) ≡ 1 ∷ 0 ∷ 1 ∷ 5 ∷ 1 ∷ [])
     × (checkedNumbers (Application 6 2) ≡ 1 ∷ 0 ∷ 2 ∷ 6 ∷ 2 ∷ []) × (checkedNumbers (Reference 7 3) ≡ 1 ∷ 0 ∷ 3 ∷ 7 ∷ 3 ∷ [])
-check-names = (refl, refl, refl, refl)
+    × (checkedNumbers Unchecked ≡ 1 ∷ 0 ∷ 4 ∷ 0 ∷ 0 ∷ [])
+check-names = (refl, refl, refl, refl, refl)

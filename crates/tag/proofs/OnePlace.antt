@@ -16,7 +16,7 @@ use Rattle.layout.proofs.References.{reference-injective}
 use Rattle.tag.specs.Blocks.{formatAt, dataOf}
 use Rattle.tag.specs.Tags.{applicationDue, referenceDue, due, good}
 use Rattle.tag.specs.declared.Fields.{Fields}
-use Rattle.tag.proofs.Fits.{good-fields}
+use Rattle.tag.proofs.Cases.{good-fields}
 
 -- the mark in the application tag tells the kind
 marks : (x y : Bool) (v scale : ℕ) → 0 < scale → (cond x 0x8000 0 + v) * scale ≡ (cond y 0x8000 0 + v) * scale → x ≡ y

@@ -1,6 +1,6 @@
 -- The tag of a block: guard, application tag and reference tag, in this order; which are due at a place, and the check of a block.
 -- Assumes nothing.
-use Prim.Native.Nat.{ℕ, _+_, _*_, _^_, _<_}
+use Prim.Native.Nat.{ℕ, _+_, _*_, _/_, _^_, _<_}
 use mathlib.Core.Bool.{Bool, not, cond, _&&_}
 use mathlib.Core.List.{List, [], _∷_, _++_}
 use lib.Dec.{leb, eqb}
@@ -14,7 +14,7 @@ use Rattle.tag.specs.Numbers.{bytesOf, numberOf}
 use Rattle.tag.specs.Blocks.{formatAt, dataOf, tagOf}
 use Rattle.tag.specs.declared.Fields.{Fields}
 use Rattle.tag.specs.declared.Checked.{Checked}
-use Rattle.tag.specs.declared.Checked.the-variants.{Refused, Good, Guard, Application, Reference}
+use Rattle.tag.specs.declared.Checked.the-variants.{Refused, Good, Guard, Application, Reference, Unchecked}
 
 module _ (F : Format) where
   -- the fields fit their bytes
@@ -72,25 +72,45 @@ firstWrong f e =
 unfoldable pub fits : Fields → Fields → Bool
 fits f e = eqb (f .guard) (e .guard) && eqb (f .application) (e .application) && eqb (f .reference) (e .reference)
 
--- a block is good at a place, or bad
-unfoldable pub good : Array → ℕ → ℕ → List ℕ → Bool
-good a stripe member block = fits (found (formatAt a) (tagOf (formatAt a) block)) (due a stripe member (guard (formatAt a) (dataOf (formatAt a) block)))
+-- ---- how a block stands at a place: good, bad or unchecked
+
+module _ (F : Format) where
+  -- the two bytes of the application tag stand as FFFFh: the block is not to be checked
+  unfoldable pub exempt : Fields → Bool
+  exempt f = eqb (f .application / F .scale) 0xFFFF
+
+  -- 2 unchecked; else 0 good, where every field is the one due, and 1 bad, where some is not
+  unfoldable pub standing : Fields → Fields → ℕ
+  standing f e = cond (exempt f) 2 (cond (fits f e) 0 1)
+
+unfoldable pub standingAt : Array → ℕ → ℕ → List ℕ → ℕ
+standingAt a stripe member block =
+    standing (formatAt a) (found (formatAt a) (tagOf (formatAt a) block)) (due a stripe member (guard (formatAt a) (dataOf (formatAt a) block)))
+
+abbrev pub good : Array → ℕ → ℕ → List ℕ → Bool
+good a stripe member block = eqb (standingAt a stripe member block) 0
 
 abbrev pub bad : Array → ℕ → ℕ → List ℕ → Bool
-bad a stripe member block = not (good a stripe member block)
+bad a stripe member block = eqb (standingAt a stripe member block) 1
+
+abbrev pub unchecked : Array → ℕ → ℕ → List ℕ → Bool
+unchecked a stripe member block = eqb (standingAt a stripe member block) 2
 
 -- data with the tag due to them at a place
 unfoldable pub tagged : Array → ℕ → ℕ → List ℕ → List ℕ
 tagged a stripe member bytes = bytes ++ tagBytes (formatAt a) (due a stripe member (guard (formatAt a) bytes))
 
--- ---- check, in numbers: which field is wrong, found, expected
+-- ---- check, in numbers: which field is wrong, found, expected; 4 and no values of a block that is not to be checked
+
+unfoldable pub told : Format → Fields → Fields → List ℕ
+told F f e = cond (exempt F f) (4 ∷ 0 ∷ 0 ∷ []) (firstWrong f e)
 
 unfoldable pub checkRefusal : Array → ℕ → ℕ → ℕ → ℕ
 checkRefusal a stripe member blockBytes = after (ownerRefusal a stripe member) (refuse (not (eqb blockBytes (formatAt a .blockLength))) 6 0)
 
 unfoldable pub checkNumbers : Array → ℕ → ℕ → List ℕ → List ℕ
 checkNumbers a stripe member block =
-    answer (checkRefusal a stripe member (length block)) (firstWrong (found (formatAt a) (tagOf (formatAt a) block)) (due a stripe member (guard (formatAt a) (dataOf (formatAt a) block))))
+    answer (checkRefusal a stripe member (length block)) (told (formatAt a) (found (formatAt a) (tagOf (formatAt a) block)) (due a stripe member (guard (formatAt a) (dataOf (formatAt a) block))))
 
 abbrev pub checkedNumbers : Checked → List ℕ
 checkedNumbers (Refused number) = 0 ∷ number ∷ 0 ∷ 0 ∷ 0 ∷ []
@@ -98,3 +118,4 @@ checkedNumbers Good = 1 ∷ 0 ∷ 0 ∷ 0 ∷ 0 ∷ []
 checkedNumbers (Guard f e) = 1 ∷ 0 ∷ 1 ∷ f ∷ e ∷ []
 checkedNumbers (Application f e) = 1 ∷ 0 ∷ 2 ∷ f ∷ e ∷ []
 checkedNumbers (Reference f e) = 1 ∷ 0 ∷ 3 ∷ f ∷ e ∷ []
+checkedNumbers Unchecked = 1 ∷ 0 ∷ 4 ∷ 0 ∷ 0 ∷ []

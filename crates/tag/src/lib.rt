@@ -10,10 +10,20 @@ ghost use lib.ListN.{length, take, drop};
 ghost use lib.Seq.{sets};
 ghost use Rattle.format.specs.Methods.{formatOf};
 ghost use Rattle.tag.specs.Numbers.{bytesOf, numberOf};
-ghost use Rattle.tag.specs.Tags.{tagWithin, tagWritten, found, dueAt, fits, firstWrong, checkRefusal, checkNumbers, checkedNumbers};
+ghost use Rattle.tag.specs.Tags.{tagWithin, tagWritten, found, dueAt, fits, exempt, standing, firstWrong, told, checkRefusal, checkNumbers, checkedNumbers};
 
 // What marks a parity block in its application tag, above the volume.
 const PARITY: u16 = 0x8000;
+
+// What the two bytes of an application tag are in a block that is not to be checked.
+const EXEMPT: u64 = 0xFFFF;
+
+// How a block stands at its place.
+pub const GOOD: u8 = 0;
+
+pub const BAD: u8 = 1;
+
+pub const UNCHECKED: u8 = 2;
 
 // The three fields of a tag.
 pub struct Fields {
@@ -22,13 +32,14 @@ pub struct Fields {
     pub reference: u64,
 }
 
-// What a check of a block says: good, or the first field that is wrong, as found and as expected.
+// What a check of a block says: good, or the first field that is wrong, as found and as expected; or that it is not to be checked.
 pub enum Checked {
     Refused(u8),
     Good,
     Guard { found: u64, expected: u64 },
     Application { found: u64, expected: u64 },
     Reference { found: u64, expected: u64 },
+    Unchecked,
 }
 
 // Two bytes as a number: the highest first.
@@ -199,7 +210,7 @@ pub fn due(array: Array, stripe: u64, member: usize, guard: u32) -> Fields
 }
 
 // Whether a tag is the one due.
-pub fn is_due(found: Fields, expected: Fields) -> bool
+fn is_due(found: Fields, expected: Fields) -> bool
     ensures { λ r. ⌜ r ≡ fits found expected ⌝ }
 {
     let application = expected.application;
@@ -210,6 +221,26 @@ pub fn is_due(found: Fields, expected: Fields) -> bool
         return false;
     }
     found.reference == expected.reference
+}
+
+// Whether a block with this application tag is not to be checked.
+fn is_exempt(method: u8, tag: Fields) -> bool
+    ensures { λ r. ⌜ r ≡ exempt (formatOf method) tag ⌝ }
+{
+    format::unscaled(method, tag.application) == EXEMPT
+}
+
+// How a block with this tag stands where that one is due.
+pub fn standing(method: u8, found: Fields, expected: Fields) -> u8
+    ensures { λ r. ⌜ r ≡ standing (formatOf method) found expected ⌝ }
+{
+    if is_exempt(method, found) {
+        return UNCHECKED;
+    }
+    if is_due(found, expected) {
+        return GOOD;
+    }
+    BAD
 }
 
 // The first field in which a tag differs from the one due.
@@ -235,6 +266,16 @@ fn first_wrong(found: Fields, expected: Fields) -> Checked
         };
     }
     Checked::Good
+}
+
+// What a check says of a block with this tag where that one is due.
+fn said(method: u8, found: Fields, expected: Fields) -> Checked
+    ensures { λ r. ⌜ checkedNumbers r ≡ 1 ∷ 0 ∷ told (formatOf method) found expected ⌝ }
+{
+    if is_exempt(method, found) {
+        return Checked::Unchecked;
+    }
+    first_wrong(found, expected)
 }
 
 // The refusal number of a check: the place's own, then 6 where the block has another length.
@@ -264,5 +305,5 @@ pub fn check(array: Array, stripe: u64, member: usize, block: &[u8]) -> Checked
     let data = format::data_length(method);
     let guard = format::guard(method, &block[0..data]);
     let expected = due(array, stripe, member, guard);
-    first_wrong(found(method, block, data), expected)
+    said(method, found(method, block, data), expected)
 }

@@ -2,7 +2,7 @@
 use mathlib.Core.Path.{_≡_, ap}
 use Rattle.verdict.specs.Verdicts.{verdictNumbers, scrubbedNumbers, comparedNumbers}
 use Rattle.verdict.specs.declared.Verdict.{Verdict}
-use Rattle.verdict.specs.declared.Verdict.the-variants.{Clean, Bad, Torn}
+use Rattle.verdict.specs.declared.Verdict.the-variants.{Clean, Bad, Torn, Unchecked}
 use Rattle.verdict.specs.declared.Scrubbed.{Scrubbed}
 use Rattle.verdict.specs.declared.Scrubbed.the-variants.{Refused, Found}
 use Rattle.verdict.specs.declared.Compared.{Compared}
@@ -10,14 +10,21 @@ use Rattle.verdict.specs.declared.Compared.the-variants.{Fits, Differs, 
 
 pub verdict-injective : (x y : Verdict) → verdictNumbers x ≡ verdictNumbers y → x ≡ y
 verdict-injective Clean Clean e = cc
-verdict-injective Clean (Bad m k) e = cc
-verdict-injective Clean (Torn p) e = cc
+verdict-injective Clean (Bad n l) e = cc
+verdict-injective Clean (Torn q) e = cc
+verdict-injective Clean (Unchecked n l) e = cc
 verdict-injective (Bad m k) Clean e = cc
 verdict-injective (Bad m k) (Bad n l) e = cc
-verdict-injective (Bad m k) (Torn p) e = cc
+verdict-injective (Bad m k) (Torn q) e = cc
+verdict-injective (Bad m k) (Unchecked n l) e = cc
 verdict-injective (Torn p) Clean e = cc
-verdict-injective (Torn p) (Bad m k) e = cc
+verdict-injective (Torn p) (Bad n l) e = cc
 verdict-injective (Torn p) (Torn q) e = cc
+verdict-injective (Torn p) (Unchecked n l) e = cc
+verdict-injective (Unchecked m k) Clean e = cc
+verdict-injective (Unchecked m k) (Bad n l) e = cc
+verdict-injective (Unchecked m k) (Torn q) e = cc
+verdict-injective (Unchecked m k) (Unchecked n l) e = cc
 
 pub scrubbed-injective : (x y : Scrubbed) → scrubbedNumbers x ≡ scrubbedNumbers y → x ≡ y
 scrubbed-injective (Refused n) (Refused m) e = cc

@@ -3,96 +3,159 @@ use mathlib.Core.Path.{_≡_, refl, sym, ap, ap₂, _∙_, subst}
 use mathlib.Core.Bool.{Bool, true, false, not, cond}
 use mathlib.Core.List.{List, [], _∷_, map}
 use mathlib.Core.Logic.{_≢_, _↔_}
-use Prim.Native.Nat.{ℕ, zero, suc, _≤_, _<_}
+use Prim.Native.Nat.{ℕ, zero, suc, _<_}
+use native.Mathlib.Nat.{le-of-suc-le-suc, not-suc-le-zero}
 use native.Mathlib.Omega.{arith}
 use borrow.Author.Tests.{ltb-true, ltb-false, lt-ltb, eqb-true, eq-eqb, ne-eqb, not-false}
 use lib.Dec.{ltb, eqb}
 use lib.ListN.{length, getD, replicate, length-map, length-replicate, getD-replicate, List·getD-map}
 use lib.Seq.{ext-getD}
-use Rattle.verdict.specs.Verdicts.{count, lowest, nonzero, judgedBy, judged}
+use Rattle.verdict.specs.Verdicts.{count, lowest, nonzero, standingAs, tells, judged}
 use Rattle.verdict.specs.Flags.{NoFlag, First, FirstNonzero}
-use Rattle.verdict.proofs.Flags.{count-none, none-count, lowest-first, first-lowest, first-counted, lowest-inside, lowest-past}
+use Rattle.verdict.proofs.Flags.{count-none, none-count, lowest-first, first-lowest, first-counted}
 
--- ---- of flags
+-- ---- of members and places
 
-module _ (bads torn : List Bool) where
-  -- the verdict by its two tests
-  abbrev byTests : Bool → Bool → List ℕ
-  byTests b t = cond b (1 ∷ lowest bads ∷ count bads ∷ []) (cond t (2 ∷ lowest torn ∷ 0 ∷ []) (0 ∷ 0 ∷ 0 ∷ []))
+module _ (members : List ℕ) (torn : List Bool) where
+  abbrev bads : List Bool
+  bads = standingAs 1 members
 
-  pub judged-clean : (judged bads torn ≡ 0 ∷ 0 ∷ 0 ∷ []) ↔ (NoFlag bads × NoFlag torn)
-  unfolding judged judgedBy
-  judged-clean = (said (ltb 0 (count bads)) (ltb 0 (count torn)) refl refl, λ h. rw (none-count bads (h .0), none-count torn (h .1)))
+  abbrev uncheckeds : List Bool
+  uncheckeds = standingAs 2 members
+
+  -- the verdict by its three tests
+  abbrev byTests : Bool → Bool → Bool → List ℕ
+  byTests b u t = cond b (tells 1 bads) (cond u (tells 3 uncheckeds) (cond t (2 ∷ lowest torn ∷ 0 ∷ []) (0 ∷ 0 ∷ 0 ∷ [])))
+
+  -- each of the four, where its tests say so
+  pub says-bad : 0 < count bads → judged members torn ≡ tells 1 bads
+  unfolding judged
+  says-bad h = rw (lt-ltb 0 (count bads) h)
+
+  pub says-unchecked : count bads ≡ 0 → 0 < count uncheckeds → judged members torn ≡ tells 3 uncheckeds
+  unfolding judged
+  says-unchecked e h = rw (e, lt-ltb 0 (count uncheckeds) h)
+
+  pub says-torn : count bads ≡ 0 → count uncheckeds ≡ 0 → 0 < count torn → judged members torn ≡ 2 ∷ lowest torn ∷ 0 ∷ []
+  unfolding judged
+  says-torn e f h = rw (e, f, lt-ltb 0 (count torn) h)
+
+  pub says-clean : count bads ≡ 0 → count uncheckeds ≡ 0 → count torn ≡ 0 → judged members torn ≡ 0 ∷ 0 ∷ 0 ∷ []
+  unfolding judged
+  says-clean e f g = rw (e, f, g)
+
+  -- what a verdict is, by cases that shut each other out
+  pub data Judged : List ℕ → Type 0 where
+    of-bad : 0 < count bads → Judged (tells 1 bads)
+    of-unchecked : count bads ≡ 0 → 0 < count uncheckeds → Judged (tells 3 uncheckeds)
+    of-torn : count bads ≡ 0 → count uncheckeds ≡ 0 → 0 < count torn → Judged (2 ∷ lowest torn ∷ 0 ∷ [])
+    of-clean : count bads ≡ 0 → count uncheckeds ≡ 0 → count torn ≡ 0 → Judged (0 ∷ 0 ∷ 0 ∷ [])
+
+  pub judged-case : Judged (judged members torn)
+  unfolding judged
+  judged-case = by-tests (ltb 0 (count bads)) (ltb 0 (count uncheckeds)) (ltb 0 (count torn)) refl refl refl
     where
-      said : (b t : Bool) → ltb 0 (count bads) ≡ b → ltb 0 (count torn) ≡ t → byTests b t ≡ 0 ∷ 0 ∷ 0 ∷ [] → NoFlag bads × NoFlag torn
-      said true t p q e = let z : _≡_ {A = ℕ} 0 1 = cc in absurd (omega arith)
-      said false true p q e = let z : _≡_ {A = ℕ} 0 1 = cc in absurd (omega arith)
-      said false false p q e =
-          (count-none bads (omega (arith, ltb-false 0 (count bads) p)), count-none torn (omega (arith, ltb-false 0 (count torn) q)))
+      by-tests : (b u t : Bool) → ltb 0 (count bads) ≡ b → ltb 0 (count uncheckeds) ≡ u → ltb 0 (count torn) ≡ t → Judged (byTests b u t)
+      by-tests true u t p q r = of-bad (ltb-true 0 (count bads) p)
+      by-tests false true t p q r = of-unchecked (omega (arith, ltb-false 0 (count bads) p)) (ltb-true 0 (count uncheckeds) q)
+      by-tests false false true p q r =
+          of-torn (omega (arith, ltb-false 0 (count bads) p)) (omega (arith, ltb-false 0 (count uncheckeds) q)) (ltb-true 0 (count torn) r)
+      by-tests false false false p q r =
+          of-clean (omega (arith, ltb-false 0 (count bads) p)) (omega (arith, ltb-false 0 (count uncheckeds) q)) (omega (arith, ltb-false 0 (count torn) r))
 
-  pub judged-bad : (member bad : ℕ) → (judged bads torn ≡ 1 ∷ member ∷ bad ∷ []) ↔ (First bads member × (bad ≡ count bads))
-  unfolding judged judgedBy
-  judged-bad member bad = (
-    said (ltb 0 (count bads)) (ltb 0 (count torn)) refl,
-    λ h. rw (lt-ltb 0 (count bads) (first-counted bads member (h .0)))
-        (ap₂ (λ (m k : ℕ). 1 ∷ m ∷ k ∷ []) (sym (first-lowest bads member (h .0))) (sym (h .1))),
+  pub judged-clean : (judged members torn ≡ 0 ∷ 0 ∷ 0 ∷ []) ↔ (NoFlag bads × NoFlag uncheckeds × NoFlag torn)
+  judged-clean = (said judged-case, λ h. says-clean (none-count bads (h .0)) (none-count uncheckeds (h .1)) (none-count torn (h .2)))
+    where
+      said : {l : List ℕ} → Judged l → l ≡ 0 ∷ 0 ∷ 0 ∷ [] → NoFlag bads × NoFlag uncheckeds × NoFlag torn
+      said (of-bad p) e = let z : _≡_ {A = ℕ} 1 0 = cc in absurd (omega arith)
+      said (of-unchecked p q) e = let z : _≡_ {A = ℕ} 3 0 = cc in absurd (omega arith)
+      said (of-torn p q r) e = let z : _≡_ {A = ℕ} 2 0 = cc in absurd (omega arith)
+      said (of-clean p q r) e = (count-none bads p, count-none uncheckeds q, count-none torn r)
+
+  pub judged-bad : (member many : ℕ) → (judged members torn ≡ 1 ∷ member ∷ many ∷ []) ↔ (First bads member × (many ≡ count bads))
+  judged-bad member many = (
+    said judged-case,
+    λ h. says-bad (first-counted bads member (h .0)) ∙ ap₂ (λ (m k : ℕ). 1 ∷ m ∷ k ∷ []) (sym (first-lowest bads member (h .0))) (sym (h .1)),
   )
     where
-      said : (b t : Bool) → ltb 0 (count bads) ≡ b → byTests b t ≡ 1 ∷ member ∷ bad ∷ [] → First bads member × (bad ≡ count bads)
-      said true t p e =
-          let low : lowest bads ≡ member = cc in
-          (subst (First bads) low (lowest-first bads (ltb-true 0 (count bads) p)), (cc))
-      said false true p e = let z : _≡_ {A = ℕ} 1 2 = cc in absurd (omega arith)
-      said false false p e = let z : _≡_ {A = ℕ} 0 1 = cc in absurd (omega arith)
+      said : {l : List ℕ} → Judged l → l ≡ 1 ∷ member ∷ many ∷ [] → First bads member × (many ≡ count bads)
+      said (of-bad p) e = let low : lowest bads ≡ member = cc in (subst (First bads) low (lowest-first bads p), (cc))
+      said (of-unchecked p q) e = let z : _≡_ {A = ℕ} 3 1 = cc in absurd (omega arith)
+      said (of-torn p q r) e = let z : _≡_ {A = ℕ} 2 1 = cc in absurd (omega arith)
+      said (of-clean p q r) e = let z : _≡_ {A = ℕ} 0 1 = cc in absurd (omega arith)
 
-  pub judged-torn : (place : ℕ) → (judged bads torn ≡ 2 ∷ place ∷ 0 ∷ []) ↔ (NoFlag bads × First torn place)
-  unfolding judged judgedBy
+  pub judged-unchecked : (member many : ℕ)
+      → (judged members torn ≡ 3 ∷ member ∷ many ∷ []) ↔ (NoFlag bads × First uncheckeds member × (many ≡ count uncheckeds))
+  judged-unchecked member many = (
+    said judged-case,
+    λ h. says-unchecked (none-count bads (h .0)) (first-counted uncheckeds member (h .1))
+        ∙ ap₂ (λ (m k : ℕ). 3 ∷ m ∷ k ∷ []) (sym (first-lowest uncheckeds member (h .1))) (sym (h .2)),
+  )
+    where
+      said : {l : List ℕ} → Judged l → l ≡ 3 ∷ member ∷ many ∷ [] → NoFlag bads × First uncheckeds member × (many ≡ count uncheckeds)
+      said (of-bad p) e = let z : _≡_ {A = ℕ} 1 3 = cc in absurd (omega arith)
+      said (of-unchecked p q) e = let low : lowest uncheckeds ≡ member = cc in (count-none bads p, subst (First uncheckeds) low (lowest-first uncheckeds q), (cc))
+      said (of-torn p q r) e = let z : _≡_ {A = ℕ} 2 3 = cc in absurd (omega arith)
+      said (of-clean p q r) e = let z : _≡_ {A = ℕ} 0 3 = cc in absurd (omega arith)
+
+  pub judged-torn : (place : ℕ) → (judged members torn ≡ 2 ∷ place ∷ 0 ∷ []) ↔ (NoFlag bads × NoFlag uncheckeds × First torn place)
   judged-torn place = (
-    said (ltb 0 (count bads)) (ltb 0 (count torn)) refl refl,
-    λ h. rw (none-count bads (h .0), lt-ltb 0 (count torn) (first-counted torn place (h .1)))
-        (ap (λ (p : ℕ). 2 ∷ p ∷ 0 ∷ []) (sym (first-lowest torn place (h .1)))),
+    said judged-case,
+    λ h. says-torn (none-count bads (h .0)) (none-count uncheckeds (h .1)) (first-counted torn place (h .2))
+        ∙ ap (λ (p : ℕ). 2 ∷ p ∷ 0 ∷ []) (sym (first-lowest torn place (h .2))),
   )
     where
-      said : (b t : Bool) → ltb 0 (count bads) ≡ b → ltb 0 (count torn) ≡ t → byTests b t ≡ 2 ∷ place ∷ 0 ∷ [] → NoFlag bads × First torn place
-      said true t p q e = let z : _≡_ {A = ℕ} 1 2 = cc in absurd (omega arith)
-      said false true p q e =
-          let low : lowest torn ≡ place = cc in
-          (count-none bads (omega (arith, ltb-false 0 (count bads) p)), subst (First torn) low (lowest-first torn (ltb-true 0 (count torn) q)))
-      said false false p q e = let z : _≡_ {A = ℕ} 0 2 = cc in absurd (omega arith)
+      said : {l : List ℕ} → Judged l → l ≡ 2 ∷ place ∷ 0 ∷ [] → NoFlag bads × NoFlag uncheckeds × First torn place
+      said (of-bad p) e = let z : _≡_ {A = ℕ} 1 2 = cc in absurd (omega arith)
+      said (of-unchecked p q) e = let z : _≡_ {A = ℕ} 3 2 = cc in absurd (omega arith)
+      said (of-torn p q r) e = let low : lowest torn ≡ place = cc in (count-none bads p, count-none uncheckeds q, subst (First torn) low (lowest-first torn r))
+      said (of-clean p q r) e = let z : _≡_ {A = ℕ} 0 2 = cc in absurd (omega arith)
+
+  pub judged-length : length (judged members torn) ≡ 3
+  judged-length = by-case judged-case
+    where
+      by-case : {l : List ℕ} → Judged l → length l ≡ 3
+      by-case (of-bad p) = refl
+      by-case (of-unchecked p q) = refl
+      by-case (of-torn p q r) = refl
+      by-case (of-clean p q r) = refl
 
   -- at a refusal each of its three numbers is 0
-  pub judged-refused : map (λ (v : ℕ). zero) (judged bads torn) ≡ 0 ∷ 0 ∷ 0 ∷ []
-  unfolding judged judgedBy
-  judged-refused = refused (ltb 0 (count bads)) (ltb 0 (count torn))
+  pub judged-refused : map (λ (v : ℕ). zero) (judged members torn) ≡ 0 ∷ 0 ∷ 0 ∷ []
+  judged-refused = refused judged-case
     where
-      refused : (b t : Bool) → map (λ (v : ℕ). zero) (byTests b t) ≡ 0 ∷ 0 ∷ 0 ∷ []
-      refused true t = refl
-      refused false true = refl
-      refused false false = refl
+      refused : {l : List ℕ} → Judged l → map (λ (v : ℕ). zero) l ≡ 0 ∷ 0 ∷ 0 ∷ []
+      refused (of-bad p) = refl
+      refused (of-unchecked p q) = refl
+      refused (of-torn p q r) = refl
+      refused (of-clean p q r) = refl
 
-  -- a verdict that does not begin with 1 finds no member bad
-  pub none-bad : getD (judged bads torn) 0 0 ≢ 1 → NoFlag bads
-  unfolding judged judgedBy
-  none-bad h = said (ltb 0 (count bads)) (ltb 0 (count torn)) refl h
+  -- a verdict that begins with neither 1 nor 3 finds no member bad, and none unchecked
+  pub none-amiss : getD (judged members torn) 0 0 ≢ 1 → getD (judged members torn) 0 0 ≢ 3 → NoFlag bads × NoFlag uncheckeds
+  none-amiss = said judged-case
     where
-      said : (b t : Bool) → ltb 0 (count bads) ≡ b → getD (byTests b t) 0 0 ≢ 1 → NoFlag bads
-      said true t p n = absurd (n refl)
-      said false t p n = count-none bads (omega (arith, ltb-false 0 (count bads) p))
+      said : {l : List ℕ} → Judged l → getD l 0 0 ≢ 1 → getD l 0 0 ≢ 3 → NoFlag bads × NoFlag uncheckeds
+      said (of-bad p) n k = absurd (n refl)
+      said (of-unchecked p q) n k = absurd (k refl)
+      said (of-torn p q r) n k = (count-none bads p, count-none uncheckeds q)
+      said (of-clean p q r) n k = (count-none bads p, count-none uncheckeds q)
 
--- ---- by what a loop finds: the lowest bad member and their count, and the first place that is not zero or the length
+-- ---- which members stand so
 
-module _ (member bads : ℕ) (torn : List Bool) where
-  pub judged-by-bad : 0 < bads → judgedBy member bads torn ≡ 1 ∷ member ∷ bads ∷ []
-  unfolding judgedBy
-  judged-by-bad h = rw (lt-ltb 0 bads h)
+module _ {A B : Type 0} where
+  pub getD-map : (f : A → B) (l : List A) (i : ℕ) (d : B) (e : A) → i < length l → getD (map f l) i d ≡ f (getD l i e)
+  getD-map f [] i d e h = absurd (not-suc-le-zero h)
+  getD-map f (x ∷ l) zero d e h = refl
+  getD-map f (x ∷ l) (suc i) d e h = getD-map f l i d e (le-of-suc-le-suc h)
 
-  pub judged-by-torn : bads ≡ 0 → lowest torn < length torn → judgedBy member bads torn ≡ 2 ∷ lowest torn ∷ 0 ∷ []
-  unfolding judgedBy
-  judged-by-torn e h = rw (e, lt-ltb 0 (count torn) (lowest-inside torn h))
+module _ (k : ℕ) (members : List ℕ) where
+  pub length-standingAs : length (standingAs k members) ≡ length members
+  unfolding standingAs
+  length-standingAs = length-map members (λ x. eqb x k)
 
-  pub judged-by-clean : bads ≡ 0 → length torn ≤ lowest torn → judgedBy member bads torn ≡ 0 ∷ 0 ∷ 0 ∷ []
-  unfolding judgedBy
-  judged-by-clean e h = rw (e, lowest-past torn h)
+  pub standingAs-at : (i : ℕ) → i < length members → getD (standingAs k members) i false ≡ eqb (getD members i 0) k
+  unfolding standingAs
+  standingAs-at i h = getD-map (λ x. eqb x k) members i false 0 h
 
 -- ---- of combined bytes
 

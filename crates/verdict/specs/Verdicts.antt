@@ -1,5 +1,5 @@
--- The verdict of a scrub from flags alone, which members are bad and which places are not zero, and the quick scrub of guards; each
--- answer in numbers. Assumes nothing.
+-- The verdict of a scrub from how its members stand and which places are not zero, and the quick scrub of guards; each answer in
+-- numbers. Assumes nothing.
 use Prim.Native.Nat.{ℕ, suc}
 use mathlib.Core.Bool.{Bool, true, false, not, cond}
 use mathlib.Core.List.{List, [], _∷_, map}
@@ -9,7 +9,7 @@ use lib.ListN.{length}
 use Rattle.layout.specs.Answers.{refuse, answer}
 use Rattle.layout.specs.Arrays.{within}
 use Rattle.verdict.specs.declared.Verdict.{Verdict}
-use Rattle.verdict.specs.declared.Verdict.the-variants.{Clean, Bad, Torn}
+use Rattle.verdict.specs.declared.Verdict.the-variants.{Clean, Bad, Torn, Unchecked}
 use Rattle.verdict.specs.declared.Scrubbed.{Scrubbed}
 use Rattle.verdict.specs.declared.Scrubbed.the-variants.{Refused, Found}
 use Rattle.verdict.specs.declared.Compared.{Compared}
@@ -30,18 +30,28 @@ lowest (false ∷ flags) = suc (lowest flags)
 unfoldable pub nonzero : List ℕ → List Bool
 nonzero bytes = map (λ x. not (eqb x 0)) bytes
 
--- in numbers: 0 clean; 1 bad, with the lowest bad member and their count; 2 torn, with the lowest place. Bad goes before torn.
-unfoldable pub judgedBy : ℕ → ℕ → List Bool → List ℕ
-judgedBy member bads torn =
-    cond (ltb 0 bads) (1 ∷ member ∷ bads ∷ []) (cond (ltb 0 (count torn)) (2 ∷ lowest torn ∷ 0 ∷ []) (0 ∷ 0 ∷ 0 ∷ []))
+-- members stand as 0 good, 1 bad or 2 unchecked: which of them stand so
+unfoldable pub standingAs : ℕ → List ℕ → List Bool
+standingAs k members = map (λ x. eqb x k) members
 
-unfoldable pub judged : List Bool → List Bool → List ℕ
-judged bads torn = judgedBy (lowest bads) (count bads) torn
+-- the lowest of the members that stand so, and their count, after the number that says it
+abbrev pub tells : ℕ → List Bool → List ℕ
+tells kind flags = kind ∷ lowest flags ∷ count flags ∷ []
+
+-- in numbers: 1 bad, with the lowest bad member and their count; else 3 unchecked, with the lowest unchecked member and their count;
+-- else 2 torn, with the lowest place; else 0 clean
+unfoldable pub judged : List ℕ → List Bool → List ℕ
+judged members torn =
+    let bads = standingAs 1 members in
+    let uncheckeds = standingAs 2 members in
+    cond (ltb 0 (count bads)) (tells 1 bads)
+    (cond (ltb 0 (count uncheckeds)) (tells 3 uncheckeds) (cond (ltb 0 (count torn)) (2 ∷ lowest torn ∷ 0 ∷ []) (0 ∷ 0 ∷ 0 ∷ [])))
 
 abbrev pub verdictNumbers : Verdict → List ℕ
 verdictNumbers Clean = 0 ∷ 0 ∷ 0 ∷ []
 verdictNumbers (Bad member n) = 1 ∷ member ∷ n ∷ []
 verdictNumbers (Torn place) = 2 ∷ place ∷ 0 ∷ []
+verdictNumbers (Unchecked member n) = 3 ∷ member ∷ n ∷ []
 
 -- of a scrub: refused, or done and its verdict
 abbrev pub scrubbedNumbers : Scrubbed → List ℕ

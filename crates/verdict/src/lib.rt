@@ -1,4 +1,4 @@
-// The verdict on a stripe's bad members and combined data, and the quick scrub of its stored guards: all of a scrub that looks at no block.
+// The verdict on how a stripe's members stand and on their combined data, and the quick scrub of its stored guards: all of a scrub that looks at no block.
 ghost use mathlib.Core.Path.{_≡_};
 ghost use Prim.Native.Nat.{max};
 ghost use lib.Dec.{eqb};
@@ -6,7 +6,8 @@ ghost use Rattle.verdict.specs.Verdicts.{
   count,
   lowest,
   nonzero,
-  judgedBy,
+  standingAs,
+  judged,
   verdictNumbers,
   combinedGuards,
   quickRefusal,
@@ -14,12 +15,25 @@ ghost use Rattle.verdict.specs.Verdicts.{
   comparedNumbers,
 };
 
-// What a scrub finds in a stripe: every member good and parity right; the lowest of `count` bad members; or, with every
-// member good, the lowest place where the members' data do not combine to zero (01 calls such a stripe torn).
+// How a member that is not good stands.
+const BAD: u8 = 1;
+
+const UNCHECKED: u8 = 2;
+
+// What a scrub finds in a stripe: every member good and parity right; the lowest of `count` bad members; with none bad, the lowest of
+// `count` unchecked ones; or, with every member good, the lowest place where the members' data do not combine to zero (01 calls such a
+// stripe torn).
 pub enum Verdict {
     Clean,
     Bad { member: usize, count: usize },
     Torn { place: usize },
+    Unchecked { member: usize, count: usize },
+}
+
+// Members that stand alike: the lowest of them, and how many they are. Where there is none the lowest is the number of members.
+struct Alike {
+    lowest: usize,
+    count: usize,
 }
 
 // A scrub refused, or its verdict.
@@ -72,14 +86,40 @@ fn first_nonzero(bytes: &[u8]) -> usize
     place
 }
 
-// The verdict on a stripe with so many bad members, of which `member` is the lowest, and such combined data.
-pub fn judge(member: usize, bads: usize, combined: &[u8]) -> Verdict
-    ensures { λ r. ⌜ verdictNumbers r ≡ judgedBy member bads (nonzero (now (combined .entry))) ⌝ }
+// The members that stand so, found from the highest down.
+fn standing_as(kind: u8, members: &[u8]) -> Alike
+    ensures { λ r. ⌜ r .lowest ≡ lowest (standingAs kind (now (members .entry))) ⌝ }
+    ensures { λ r. ⌜ r .count ≡ count (standingAs kind (now (members .entry))) ⌝ }
 {
-    if 0 < bads {
+    let mut lowest = members.len();
+    let mut count: usize = 0;
+    let mut member = members.len();
+    while 0 < member {
+        member -= 1;
+        if members[member] == kind {
+            lowest = member;
+            count += 1;
+        }
+    }
+    Alike { lowest, count }
+}
+
+// The verdict on a stripe whose members stand so, with such combined data.
+pub fn judge(members: &[u8], combined: &[u8]) -> Verdict
+    ensures { λ r. ⌜ verdictNumbers r ≡ judged (now (members .entry)) (nonzero (now (combined .entry))) ⌝ }
+{
+    let bad = standing_as(BAD, members);
+    if 0 < bad.count {
         return Verdict::Bad {
-            member,
-            count: bads,
+            member: bad.lowest,
+            count: bad.count,
+        };
+    }
+    let unchecked = standing_as(UNCHECKED, members);
+    if 0 < unchecked.count {
+        return Verdict::Unchecked {
+            member: unchecked.lowest,
+            count: unchecked.count,
         };
     }
     let place = first_nonzero(combined);

@@ -4,7 +4,7 @@ use super::Outcome;
 use crate::random::Random;
 use model::guard;
 use model::layout::{Array, Owner};
-use model::stripe::{self, BLOCK, DATA};
+use model::stripe::{self, APPLICATION, BLOCK, DATA, UNCHECKED, Verdict};
 
 /// How many stripes are tried of each number of members.
 const STRIPES_EACH: usize = 1_430;
@@ -19,6 +19,12 @@ pub const FAR_STRIPES: [u64; 6] = [0, 268_435_457, 1 << 32, (1 << 32) + 1, 1 << 
 #[rustfmt::skip]
 pub const FAR_MEMBERS: [usize; 11] = [0, 1, 2, 17, 18, 255, 256, 259, 65_539, (1 << 32) + 5, usize::MAX];
 
+/// A volume: any, and often FFh, with which a tag that is due comes nearest to the mark of an unchecked block.
+pub fn any_volume(random: &mut Random) -> u8 {
+    let any = random.next() as u8;
+    random.pick(&[any, any, any, 0xFF])
+}
+
 pub fn array(random: &mut Random) -> Array {
     let stripes = match random.below(2) {
         0 => random.pick(&STRIPES),
@@ -27,7 +33,7 @@ pub fn array(random: &mut Random) -> Array {
     Array {
         members: random.between(3, 16) as usize,
         stripes,
-        volume: random.next() as u8,
+        volume: any_volume(random),
     }
 }
 
@@ -117,6 +123,7 @@ pub fn each_stripe(
 }
 
 /// A stripe in memory.
+#[derive(Clone)]
 pub struct Case {
     pub array: Array,
     pub stripe: u64,
@@ -168,12 +175,42 @@ impl Case {
         random.pick(&DAMAGES)(self, member, random);
     }
 
-    /// Another byte at a place of a member's block.
+    /// Another byte at a place of a member's block, which does not make it unchecked.
     pub fn spoil(&mut self, member: usize, place: usize, random: &mut Random) {
-        self.block(member)[place] ^= random.between(1, 255) as u8;
+        let block = self.block(member);
+        let before = block[place];
+        while block[place] == before
+            || (APPLICATION.contains(&place) && block[APPLICATION] == UNCHECKED)
+        {
+            block[place] = random.next() as u8;
+        }
     }
 
-    fn block(&mut self, member: usize) -> &mut [u8] {
+    /// A member written anew from a place on, data and tag.
+    pub fn tear(&mut self, member: usize, place: usize, random: &mut Random) -> Verdict {
+        self.spoil(member, place, random);
+        if place + 1 < DATA && random.one_in(2) {
+            let later = random.between(place as u64 + 1, DATA as u64 - 1);
+            self.spoil(member, later as usize, random);
+        }
+        self.tag_again(member);
+        Verdict::Torn { place }
+    }
+
+    /// Marks a member's block as not to be checked, whatever its other bytes are: as they were, some changed, or any.
+    pub fn mark(&mut self, member: usize, random: &mut Random) {
+        let block = self.block(member);
+        match random.below(5) {
+            0 => block[random.below(DATA)] ^= random.between(1, 255) as u8,
+            1 => block[DATA..].fill(0xFF),
+            2 => random.fill(&mut block[DATA..]),
+            3 => random.fill(block),
+            _ => {}
+        }
+        block[APPLICATION].copy_from_slice(&UNCHECKED);
+    }
+
+    pub fn block(&mut self, member: usize) -> &mut [u8] {
         &mut self.bytes[stripe::span(member)]
     }
 
@@ -192,14 +229,18 @@ impl Case {
 
 type Damage = fn(&mut Case, usize, &mut Random);
 
-const DAMAGES: [Damage; 21] = [
+const DAMAGES: [Damage; 25] = [
     flip,
     flip,
     guard_field,
     kind,
     volume,
     reference,
-    escape,
+    marked,
+    marked,
+    marked,
+    nearly_marked,
+    nearly_marked,
     swap,
     shift,
     other_stripe,
@@ -240,11 +281,32 @@ fn reference(case: &mut Case, member: usize, random: &mut Random) {
     case.block(member)[516 + random.below(4)] ^= random.between(1, 255) as u8;
 }
 
-/// The tag values by which T10 lets a reader skip a block; here they are compared as any others.
-fn escape(case: &mut Case, member: usize, random: &mut Random) {
-    let end = random.pick(&[516, BLOCK]);
-    case.block(member)[514..end].fill(0xFF);
+/// The mark by which T10 lets a reader skip a block.
+fn marked(case: &mut Case, member: usize, random: &mut Random) {
+    case.mark(member, random);
 }
+
+/// A tag that comes near the mark, or has it in another place.
+fn nearly_marked(case: &mut Case, member: usize, random: &mut Random) {
+    let (at, value) = random.pick(&NEAR_MARKS);
+    case.block(member)[at..at + value.len()].copy_from_slice(value);
+}
+
+/// Places in a tag and what they hold instead of what is due. Only with a volume of FFh does one of them, at 513, make the mark.
+pub const NEAR_MARKS: [(usize, &[u8]); 12] = [
+    (514, &[0xFF, 0xFE]),
+    (514, &[0xFE, 0xFF]),
+    (514, &[0xFF, 0x7F]),
+    (514, &[0x7F, 0xFF]),
+    (514, &[0xFF, 0x00]),
+    (514, &[0x00, 0xFF]),
+    (514, &[0x80, 0xFF]),
+    (512, &[0xFF, 0xFF]),
+    (513, &[0xFF, 0xFF]),
+    (515, &[0xFF, 0xFF]),
+    (516, &[0xFF, 0xFF]),
+    (516, &[0xFF, 0xFF, 0xFF, 0xFF]),
+];
 
 fn swap(case: &mut Case, member: usize, random: &mut Random) {
     let other = random.below(case.array.members);

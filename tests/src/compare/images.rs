@@ -1,6 +1,7 @@
 //! The report program on images of every kind, through a pipe in small writes.
 
-use super::cases::Case;
+use super::cases::{self, Case};
+use super::standing::{self, Standing};
 use super::{Outcome, Tally, tally};
 use crate::program::{self, Input};
 use crate::random::Random;
@@ -76,6 +77,7 @@ fn line_name(line: &str) -> &'static str {
         ["REFUSED", number] => tally::refused(number.parse().expect("the model's own number")),
         [_, "CLEAN"] => "clean",
         [_, "BAD", ..] => "bad",
+        [_, "UNCHECKED", ..] => "unchecked",
         [_, "TORN", _] => "torn",
         _ => panic!("the model wrote the line {line}"),
     }
@@ -135,7 +137,7 @@ impl Compared {
         let array = Array {
             members,
             stripes: stripes as u64,
-            volume: random.next() as u8,
+            volume: cases::any_volume(random),
         };
         let mut image = report::header(&array).to_vec();
         for stripe in 0..array.stripes {
@@ -153,44 +155,34 @@ impl Compared {
     }
 }
 
-/// A member written anew from a place on, data and tag.
-fn tear(case: &mut Case, member: usize, place: usize, random: &mut Random) -> Verdict {
-    case.spoil(member, place, random);
-    if place + 1 < DATA && random.one_in(2) {
-        let later = random.between(place as u64 + 1, DATA as u64 - 1);
-        case.spoil(member, later as usize, random);
-    }
-    case.tag_again(member);
-    Verdict::Torn { place }
+/// The members in one of the ways in which they can stand; now and then one is torn too.
+fn stand(case: &mut Case, way: usize, random: &mut Random) -> Verdict {
+    let standings = standing::standings(case.array.members, way);
+    standing::stand(case, &standings, random.one_in(2), random)
 }
 
-/// The members of a set, each with a bad byte; now and then another one is torn, which must not show.
-fn spoil(case: &mut Case, set: u64, random: &mut Random) -> Verdict {
-    let (bad, good): (Vec<usize>, Vec<usize>) =
-        (0..case.array.members).partition(|member| set >> member & 1 == 1);
-    if !good.is_empty() && random.one_in(2) {
-        tear(case, random.pick(&good), random.below(DATA), random);
-    }
-    for member in &bad {
-        case.spoil(*member, random.below(BLOCK), random);
-    }
-    Verdict::Bad {
-        member: bad[0],
-        count: bad.len(),
-    }
+/// The members of a set bad or unchecked, and the others good; now and then one of these is torn, which must not show.
+fn set_apart(case: &mut Case, kind: Standing, set: u64, random: &mut Random) -> Verdict {
+    let standings: Vec<Standing> = (0..case.array.members)
+        .map(|member| [Standing::Good, kind][(set >> member & 1) as usize])
+        .collect();
+    standing::stand(case, &standings, random.one_in(2), random)
 }
 
-/// Any of the three verdicts.
+/// Any of the four verdicts.
 fn any_verdict(case: &mut Case, random: &mut Random) -> Verdict {
     let members = case.array.members;
-    match random.below(3) {
+    let set = random.between(1, (1 << members) - 1);
+    match random.below(5) {
         0 => Verdict::Clean,
-        1 => spoil(case, random.between(1, (1 << members) - 1), random),
-        _ => tear(case, random.below(members), random.below(DATA), random),
+        1 => set_apart(case, Standing::Bad, set, random),
+        2 => set_apart(case, Standing::Unchecked, set, random),
+        3 => stand(case, random.below(standing::ways(members)), random),
+        _ => case.tear(random.below(members), random.below(DATA), random),
     }
 }
 
-/// Clean, bad, torn and mixed images.
+/// Clean, bad, unchecked, torn and mixed images.
 fn verdicts(members: usize, compared: &mut Compared, random: &mut Random) -> Outcome<()> {
     compared.known("clean", (members, 40), random, |_, _| Verdict::Clean)?;
     let bytes = members * PLACES.len();
@@ -205,15 +197,33 @@ fn verdicts(members: usize, compared: &mut Compared, random: &mut Random) -> Out
     if members <= 5 {
         let sets = (1 << members) - 1;
         compared.known("each set bad", (members, sets), random, |case, random| {
-            spoil(case, case.stripe + 1, random)
+            set_apart(case, Standing::Bad, case.stripe + 1, random)
+        })?;
+        let ways = standing::ways(members);
+        compared.known(
+            "each way to stand",
+            (members, ways),
+            random,
+            |case, random| stand(case, case.stripe as usize, random),
+        )?;
+    }
+    for (what, kind) in [
+        ("some bad", Standing::Bad),
+        ("some unchecked", Standing::Unchecked),
+    ] {
+        compared.known(what, (members, 100), random, |case, random| {
+            set_apart(case, kind, random.between(1, (1 << members) - 1), random)
         })?;
     }
-    compared.known("some bad", (members, 100), random, |case, random| {
-        spoil(case, random.between(1, (1 << members) - 1), random)
-    })?;
+    compared.known(
+        "one unchecked",
+        (members, members),
+        random,
+        |case, random| set_apart(case, Standing::Unchecked, 1 << case.stripe, random),
+    )?;
     compared.known("torn", (members, DATA), random, |case, random| {
         let member = random.below(members);
-        tear(case, member, case.stripe as usize, random)
+        case.tear(member, case.stripe as usize, random)
     })?;
     compared.known("mixed", (members, 100), random, any_verdict)
 }
@@ -342,6 +352,6 @@ pub fn compare(random: &mut Random) -> Outcome<String> {
         compared.images,
         compared
             .lines
-            .of("lines", "clean bad torn total 1 2 10 11")?
+            .of("lines", "clean bad unchecked torn total 1 2 10 11")?
     ))
 }

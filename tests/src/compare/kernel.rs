@@ -1,12 +1,12 @@
-//! Blocks and tags that a Linux kernel wrote: good where they belong, and bad with any bit changed or anywhere else.
+//! Blocks and tags that a Linux kernel wrote: good where they belong, bad with any bit changed or anywhere else, and unchecked once they are marked.
 
-use super::{Outcome, same, tag};
+use super::{Outcome, known, same, tag};
 use crate::lent::Lent;
 use crate::library;
 use crate::random::Random;
 use model::guard::guard;
 use model::layout::{Array, Owner, Place};
-use model::stripe::{BLOCK, Checked, DATA, Field};
+use model::stripe::{APPLICATION, BLOCK, Checked, DATA, Field, UNCHECKED};
 
 /// One block a line: its number, its data and its tag. The README beside the file tells where they come from.
 const BLOCKS: &str = include_str!("../../vectors/t10-pi.txt");
@@ -64,6 +64,7 @@ fn due(array: &Array, place: Place, bytes: &[u8], wrong: Option<Field>) -> Outco
     let found = match tag::checked(array, place.stripe, place.member, bytes)? {
         Ok(Checked::Good) => None,
         Ok(Checked::Wrong { field, .. }) => Some(field),
+        Ok(Checked::Unchecked) => return Err(String::from("a block with no mark is unchecked")),
         Err(number) => return Err(format!("a check is refused by {number}")),
     };
     if found == wrong {
@@ -117,6 +118,18 @@ fn changed(array: &Array, place: Place, bytes: &[u8], seen: &mut Seen) -> Outcom
     Ok(())
 }
 
+/// Marked as not to be checked, the block is unchecked where it belongs and on every other member.
+fn marked(array: &Array, place: Place, bytes: &[u8]) -> Outcome<()> {
+    let mut bytes = bytes.to_vec();
+    bytes[APPLICATION].copy_from_slice(&UNCHECKED);
+    for member in 0..array.members {
+        let said = tag::checked(array, place.stripe, member, &bytes)?;
+        known(Ok(Checked::Unchecked), said)
+            .map_err(|difference| format!("marked, on member {member}: {difference}"))?;
+    }
+    Ok(())
+}
+
 /// The largest array of each number of members.
 fn arrays() -> impl Iterator<Item = Array> {
     (3..=16).map(|members| Array {
@@ -145,6 +158,7 @@ fn block(number: u64, bytes: &[u8], seen: &mut Seen) -> Outcome<()> {
         same(array.place(tagged), Ok(place))?;
         due(array, place, bytes, None)?;
         elsewhere(array, place, bytes, seen)?;
+        marked(array, place, bytes)?;
         if turn == seen.blocks % having.len() {
             changed(array, place, bytes, seen)?;
         }
@@ -162,7 +176,7 @@ pub fn compare(_: &mut Random) -> Outcome<String> {
             .map_err(|difference| format!("line {at}: {difference}"))?;
     }
     Ok(format!(
-        "{} blocks that Linux wrote ({} past the reference tag), guards alike: good at {} places, bad at {} others and with {} bits changed one by one",
+        "{} blocks that Linux wrote ({} past the reference tag), guards alike: good at {} places, bad at {} others and with {} bits changed one by one, unchecked when marked",
         seen.blocks, seen.past, seen.good, seen.elsewhere, seen.bits
     ))
 }

@@ -50,7 +50,7 @@ impl Stripes {
 impl Iterator for Stripes {
     type Item = Vec<u8>;
 
-    /// A stripe, mostly clean. It is damaged now and then, and where a buffer's edge would lie in it: before the edge, behind it, or on both sides.
+    /// A stripe, mostly clean. It is damaged or marked now and then, and where a buffer's edge would lie in it: before the edge, behind it, or on both sides.
     fn next(&mut self) -> Option<Vec<u8>> {
         if self.next == self.array.stripes {
             return None;
@@ -69,8 +69,10 @@ impl Iterator for Stripes {
             if (begin..begin + length).contains(&place) {
                 let (member, place) = ((place - begin) / BLOCK, (place - begin) % BLOCK);
                 case.spoil(member, place, random);
-                if random.one_in(2) {
-                    case.tag_again(member);
+                match random.below(4) {
+                    0 | 1 => case.tag_again(member),
+                    2 => case.mark(member, random),
+                    _ => {}
                 }
             }
         }

@@ -9,6 +9,7 @@ pub mod large;
 pub mod layout;
 pub mod scan;
 pub mod scrub;
+pub mod standing;
 pub mod stripe;
 pub mod tag;
 mod tally;
@@ -30,6 +31,14 @@ fn same<T: PartialEq + Debug>(model: T, library: T) -> Outcome<()> {
     Err(format!("the model has {model:?}, the library {library:?}"))
 }
 
+/// The answer is the one that is known beforehand.
+fn known<T: PartialEq + Debug>(due: T, found: T) -> Outcome<()> {
+    if due == found {
+        return Ok(());
+    }
+    Err(format!("due is {due:?}, found {found:?}"))
+}
+
 /// The refusal number of an answer: 0 where it is done.
 fn refusal<T>(answer: &Answer<T>) -> u32 {
     answer.as_ref().err().copied().unwrap_or(0)
@@ -40,6 +49,7 @@ fn verdict_numbers(answer: &Answer<Verdict>) -> library::Verdict {
         Ok(Verdict::Clean) | Err(_) => (0, 0, 0),
         Ok(Verdict::Bad { member, count }) => (1, member, count),
         Ok(Verdict::Torn { place }) => (2, place, 0),
+        Ok(Verdict::Unchecked { member, count }) => (3, member, count),
     };
     library::Verdict {
         refusal: refusal(answer),
@@ -55,6 +65,7 @@ fn verdict_name(answer: &Answer<Verdict>) -> &'static str {
         Ok(Verdict::Clean) => "clean",
         Ok(Verdict::Bad { .. }) => "bad",
         Ok(Verdict::Torn { .. }) => "torn",
+        Ok(Verdict::Unchecked { .. }) => "unchecked",
         Err(number) => tally::refused(*number),
     }
 }

@@ -7,7 +7,7 @@ use crate::library::{self, Taken};
 use crate::random::Random;
 use model::layout::Array;
 use model::scan::{self, History, Scan};
-use model::stripe::{self, BLOCK, DATA};
+use model::stripe::{self, BLOCK, DATA, UNCHECKED};
 
 const LISTS: usize = 50_000;
 const STATES: usize = 100_000;
@@ -92,10 +92,15 @@ impl List {
     fn start(random: &mut Random, tally: &mut Tally) -> Outcome<Self> {
         let array = cases::array(random);
         let stripe = cases::stripe_of(&array, random);
+        List::over(&Case::any(array, stripe, random), random, tally)
+    }
+
+    fn over(case: &Case, random: &mut Random, tally: &mut Tally) -> Outcome<Self> {
+        let Case { array, stripe, .. } = *case;
         let mut work = Lent::new(&random.bytes(DATA));
         Ok(List {
             array,
-            blocks: Case::any(array, stripe, random).bytes,
+            blocks: case.bytes.clone(),
             longest: longest_cut(random),
             state: start(&array, stripe, &mut work, tally)?.state,
             work,
@@ -129,16 +134,18 @@ impl List {
         Ok(())
     }
 
-    fn finish(&self, tally: &mut Tally) -> Outcome<()> {
+    fn finish(&self, tally: &mut Tally) -> Outcome<library::Verdict> {
         let verdict = finish(self.state, &self.work, tally)?;
         same(verdict_numbers(&self.history.finish()), verdict)
-            .map_err(|difference| format!("finish by the history: {difference}"))
+            .map_err(|difference| format!("finish by the history: {difference}"))?;
+        Ok(verdict)
     }
 
     /// The next call: mostly a piece, for a member that lacks some if there is one.
     fn call(&mut self, random: &mut Random, tally: &mut Tally) -> Outcome<()> {
         if random.one_in(16) {
-            return self.finish(tally);
+            self.finish(tally)?;
+            return Ok(());
         }
         let mut member = random.below(self.array.members);
         if random.one_in(24) {
@@ -159,6 +166,17 @@ impl List {
             .and_then(|()| self.work.holds("work", &self.history.work()))
             .map_err(|difference| format!("by the history: {difference}"))
     }
+}
+
+/// The verdict on a stripe whose blocks come in cuts of any length, of one member and another.
+pub fn scanned(case: &Case, random: &mut Random, tally: &mut Tally) -> Outcome<library::Verdict> {
+    let mut list = List::over(case, random, tally)?;
+    while !list.is_whole() {
+        let member = random.below(list.array.members);
+        let bytes = list.cut(member, random);
+        list.piece(member, &bytes, tally)?;
+    }
+    list.finish(tally)
 }
 
 /// How long the cuts of a list are: mostly any, now and then short.
@@ -203,7 +221,7 @@ fn any_position(random: &mut Random) -> u16 {
     }
 }
 
-/// A state that no start gives; its tags fit its registers, mostly, where that can be.
+/// A state that no start gives; its tags fit its registers, mostly, where that can be, and some are marked as not to be checked.
 fn any_state(random: &mut Random) -> Scan {
     let array = cases::any_array(random);
     let stripe = cases::any_stripe(&array, random);
@@ -217,6 +235,7 @@ fn any_state(random: &mut Random) -> Scan {
     random.fill(&mut state.tag);
     let whole = random.one_in(2);
     let wrong = random.pick(&[2, 20, 1_000]);
+    let marked = random.pick(&[2, 20, 1_000]);
     for member in 0..16 {
         state.at[member] = if whole {
             BLOCK as u16
@@ -227,6 +246,9 @@ fn any_state(random: &mut Random) -> Scan {
         if array.place_fits(stripe, member).is_ok() && !random.one_in(wrong) {
             let tag = stripe::due(&array, stripe, member, state.register[member]);
             state.tag[8 * member..][..8].copy_from_slice(&tag);
+        }
+        if random.one_in(marked) {
+            state.tag[8 * member + 2..][..2].copy_from_slice(&UNCHECKED);
         }
     }
     state
@@ -285,12 +307,12 @@ pub fn compare(random: &mut Random) -> Outcome<String> {
     for _ in 0..STATES {
         states(random, &mut single)?;
     }
-    let listed = calls(&listed, "done", "done 5 7", "clean bad torn 8")?;
+    let listed = calls(&listed, "done", "done 5 7", "clean bad unchecked torn 8")?;
     let single = calls(
         &single,
         "done 1 2 3 6",
         "done 4 5 6 7",
-        "clean bad torn 4 6 8",
+        "clean bad unchecked torn 4 6 8",
     )?;
     Ok(format!(
         "calls alike in {LISTS} lists: {listed}; from any state: {single}"

@@ -8,7 +8,7 @@ use crate::random::Random;
 use model::layout::Array;
 use model::stripe::{self, Verdict};
 
-fn scrub(array: &Array, stripe: u64, bytes: &[u8], tally: &mut Tally) -> Outcome<()> {
+pub fn scrub(array: &Array, stripe: u64, bytes: &[u8], tally: &mut Tally) -> Outcome<()> {
     let answer = stripe::scrub(array, stripe, bytes);
     let lent = Lent::new(bytes);
     same(
@@ -53,7 +53,7 @@ fn within_sixteen(bytes: &[u8]) -> bool {
     }
 }
 
-/// Where no member is bad, the quick scrub fits on a clean stripe, and never where the difference is within sixteen bits.
+/// Where every member is good, the quick scrub fits on a clean stripe, and never where the difference is within sixteen bits.
 fn quick_by_verdict(case: &Case, tally: &mut Tally) -> Outcome<()> {
     let guards = stripe::stored_guards(&case.bytes);
     quick_scrub(&guards, tally)?;
@@ -95,7 +95,7 @@ pub fn compare(random: &mut Random) -> Outcome<String> {
         refusals(random, &mut tally)?;
     }
     let calls = [
-        tally.of("scrub", "clean bad torn 1 2 3 6")?,
+        tally.of("scrub", "clean bad unchecked torn 1 2 3 6")?,
         tally.of("quick scrub", "fits differs 1")?,
         tally.of("clean", "fits")?,
         tally.of("torn within sixteen bits", "differs")?,

@@ -6,7 +6,7 @@ use crate::lent::Lent;
 use crate::library;
 use crate::random::Random;
 use model::layout::Array;
-use model::stripe::{self, DATA};
+use model::stripe::{self, DATA, Source};
 
 fn seal(array: &Array, stripe: u64, data: &[u8], before: &[u8], tally: &mut Tally) -> Outcome<()> {
     let answer = stripe::seal(array, stripe, data, before);
@@ -22,31 +22,40 @@ fn seal(array: &Array, stripe: u64, data: &[u8], before: &[u8], tally: &mut Tall
     Ok(())
 }
 
-fn read(array: &Array, block: u64, bytes: &[u8], before: &[u8], tally: &mut Tally) -> Outcome<()> {
+pub fn read(
+    array: &Array,
+    block: u64,
+    bytes: &[u8],
+    before: &[u8],
+    tally: &mut Tally,
+) -> Outcome<()> {
     let answer = stripe::read(array, block, bytes, before);
-    let (rebuilt, due) = match &answer {
-        Ok(read) => (read.rebuilt, &read.data[..]),
-        Err(_) => (false, before),
+    let (kind, due) = match &answer {
+        Ok(read) => (read.source as u32, &read.data[..]),
+        Err(_) => (0, before),
     };
     let numbers = library::Read {
         refusal: refusal(&answer),
-        rebuilt: u32::from(rebuilt),
+        kind,
     };
     let (lent, mut out) = (Lent::new(bytes), Lent::new(before));
     same(numbers, library::read(array, block, &lent, &mut out))
         .and_then(|()| lent.kept("stripe"))
         .and_then(|()| out.holds("out", due))
         .map_err(|difference| format!("read of block {block} in {array:?}: {difference}"))?;
-    let name = match answer {
-        Ok(_) if rebuilt => "rebuilt",
-        Ok(_) => "stored",
-        Err(number) => tally::refused(number),
+    let name = match &answer {
+        Ok(read) => match read.source {
+            Source::Stored => "stored",
+            Source::Rebuilt => "rebuilt",
+            Source::Unchecked => "unchecked",
+        },
+        Err(number) => tally::refused(*number),
     };
     tally.add("read", name);
     Ok(())
 }
 
-fn rebuild(
+pub fn rebuild(
     array: &Array,
     stripe: u64,
     member: usize,
@@ -67,7 +76,13 @@ fn rebuild(
     Ok(())
 }
 
-fn update(array: &Array, block: u64, data: &[u8], before: &[u8], tally: &mut Tally) -> Outcome<()> {
+pub fn update(
+    array: &Array,
+    block: u64,
+    data: &[u8],
+    before: &[u8],
+    tally: &mut Tally,
+) -> Outcome<()> {
     let answer = stripe::update(array, block, data, before);
     let (lent, mut bytes) = (Lent::new(data), Lent::new(before));
     same(
@@ -131,7 +146,7 @@ pub fn compare(random: &mut Random) -> Outcome<String> {
     }
     let calls = [
         tally.of("seal", "done 1 2 3 6")?,
-        tally.of("read", "stored rebuilt 1 2 3 6 9")?,
+        tally.of("read", "stored rebuilt unchecked 1 2 3 6 9")?,
         tally.of("rebuild", "done 1 2 3 5 6 9")?,
         tally.of("update", "done 1 2 3 6 9")?,
     ];

@@ -15,7 +15,8 @@ fn check_numbers(answer: &Answer<Checked>) -> library::Check {
             found,
             expected,
         }) => (1 + field as u32, found, expected),
-        _ => (0, 0, 0),
+        Ok(Checked::Unchecked) => (4, 0, 0),
+        Ok(Checked::Good) | Err(_) => (0, 0, 0),
     };
     library::Check {
         refusal: refusal(answer),
@@ -28,6 +29,7 @@ fn check_numbers(answer: &Answer<Checked>) -> library::Check {
 fn check_name(answer: &Answer<Checked>) -> &'static str {
     match answer {
         Ok(Checked::Good) => "good",
+        Ok(Checked::Unchecked) => "unchecked",
         Ok(Checked::Wrong { field, .. }) => match field {
             Field::Guard => "guard",
             Field::Application => "application",
@@ -88,7 +90,10 @@ pub fn compare(random: &mut Random) -> Outcome<String> {
     for _ in 0..cases::REFUSALS {
         refusals(random, &mut tally)?;
     }
-    let calls = tally.of("check", "good guard application reference 1 2 3 5 6")?;
+    let calls = tally.of(
+        "check",
+        "good guard application reference unchecked 1 2 3 5 6",
+    )?;
     Ok(format!(
         "calls alike on {stripes} stripes and at refusals: {calls}"
     ))

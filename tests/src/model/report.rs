@@ -32,6 +32,7 @@ pub struct Report {
     array: Array,
     clean: u64,
     bad: u64,
+    unchecked: u64,
     torn: u64,
 }
 
@@ -42,6 +43,7 @@ impl Report {
             array,
             clean: 0,
             bad: 0,
+            unchecked: 0,
             torn: 0,
         }
     }
@@ -55,7 +57,7 @@ impl Report {
 
     /// The line of the next stripe.
     pub fn stripe_line(&mut self, bytes: &[u8]) -> String {
-        let stripe = self.clean + self.bad + self.torn;
+        let stripe = self.clean + self.bad + self.unchecked + self.torn;
         match stripe::scrub(&self.array, stripe, bytes).expect("a whole stripe of the array") {
             Verdict::Clean => {
                 self.clean += 1;
@@ -64,6 +66,10 @@ impl Report {
             Verdict::Bad { member, count } => {
                 self.bad += 1;
                 format!("{stripe} BAD {member} {count}\n")
+            }
+            Verdict::Unchecked { member, count } => {
+                self.unchecked += 1;
+                format!("{stripe} UNCHECKED {member} {count}\n")
             }
             Verdict::Torn { place } => {
                 self.torn += 1;
@@ -77,10 +83,11 @@ impl Report {
             array,
             clean,
             bad,
+            unchecked,
             torn,
         } = self;
         let stripes = array.stripes;
-        format!("TOTAL {stripes} clean {clean} bad {bad} torn {torn}\n")
+        format!("TOTAL {stripes} clean {clean} bad {bad} unchecked {unchecked} torn {torn}\n")
     }
 }
 

@@ -1,7 +1,7 @@
 //! The scrub in pieces, twice: as a history, kept from the calls alone; and as a scan from any state, a byte at a time.
 
 use super::layout::Array;
-use super::stripe::{self, BLOCK, DATA, Verdict};
+use super::stripe::{self, BLOCK, Checked, DATA, Verdict};
 use super::{Answer, guard};
 
 /// The state of a scan, laid out as the C header has it.
@@ -166,11 +166,11 @@ pub fn finish(state: &Scan, work: &[u8]) -> Answer<Verdict> {
     {
         return Err(8);
     }
-    let bad: Vec<usize> = (0..array.members)
-        .filter(|member| {
-            let due = stripe::due(&array, state.stripe, *member, state.register[*member]);
-            state.tag[8 * member..][..8] != due
+    let members: Vec<Checked> = (0..array.members)
+        .map(|member| {
+            let due = stripe::due(&array, state.stripe, member, state.register[member]);
+            stripe::told(&state.tag[8 * member..][..8], &due)
         })
         .collect();
-    Ok(stripe::verdict(&bad, &work))
+    Ok(stripe::verdict(&members, &work))
 }

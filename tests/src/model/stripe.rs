@@ -8,6 +8,10 @@ use std::ops::Range;
 pub const DATA: usize = 512;
 pub const BLOCK: usize = 520;
 
+/// The application tag of a block, and what stands there if the block is not to be checked.
+pub const APPLICATION: Range<usize> = 514..516;
+pub const UNCHECKED: [u8; 2] = [0xFF; 2];
+
 #[derive(Clone, Copy, Debug, PartialEq)]
 pub enum Field {
     Guard,
@@ -18,6 +22,7 @@ pub enum Field {
 #[derive(Clone, Copy, Debug, PartialEq)]
 pub enum Checked {
     Good,
+    Unchecked,
     Wrong {
         field: Field,
         found: u32,
@@ -25,10 +30,17 @@ pub enum Checked {
     },
 }
 
-/// The data of a verified read, and whether the other members had to give them.
+/// Where the data of a read come from: a good block, the other members, or a block that nobody checked.
+#[derive(Clone, Copy, Debug, PartialEq)]
+pub enum Source {
+    Stored,
+    Rebuilt,
+    Unchecked,
+}
+
 #[derive(Clone, Debug, PartialEq)]
 pub struct Read {
-    pub rebuilt: bool,
+    pub source: Source,
     pub data: Vec<u8>,
 }
 
@@ -36,6 +48,7 @@ pub struct Read {
 pub enum Verdict {
     Clean,
     Bad { member: usize, count: usize },
+    Unchecked { member: usize, count: usize },
     Torn { place: usize },
 }
 
@@ -85,15 +98,18 @@ fn number(bytes: &[u8]) -> u32 {
     bytes.iter().fold(0, |n, byte| n << 8 | u32::from(*byte))
 }
 
-fn first_wrong(array: &Array, stripe: u64, member: usize, block: &[u8]) -> Checked {
-    let whole = tagged(array, stripe, member, &block[..DATA]);
+/// What is said of a block with the tag `tag`, where `due` is due. The mark in the application tag goes first, whatever the rest is.
+pub fn told(tag: &[u8], due: &[u8]) -> Checked {
+    if tag[2..4] == UNCHECKED {
+        return Checked::Unchecked;
+    }
     let fields = [
-        (Field::Guard, 512..514),
-        (Field::Application, 514..516),
-        (Field::Reference, 516..520),
+        (Field::Guard, 0..2),
+        (Field::Application, 2..4),
+        (Field::Reference, 4..8),
     ];
     for (field, bytes) in fields {
-        let (found, expected) = (number(&block[bytes.clone()]), number(&whole[bytes]));
+        let (found, expected) = (number(&tag[bytes.clone()]), number(&due[bytes]));
         if found != expected {
             return Checked::Wrong {
                 field,
@@ -105,8 +121,14 @@ fn first_wrong(array: &Array, stripe: u64, member: usize, block: &[u8]) -> Check
     Checked::Good
 }
 
+/// What is said of a block at a place.
+fn told_of(array: &Array, stripe: u64, member: usize, block: &[u8]) -> Checked {
+    let (data, tag) = block.split_at(DATA);
+    told(tag, &due(array, stripe, member, guard::go_on(0, data)))
+}
+
 fn is_good(array: &Array, stripe: u64, bytes: &[u8], member: usize) -> bool {
-    first_wrong(array, stripe, member, &bytes[span(member)]) == Checked::Good
+    told_of(array, stripe, member, &bytes[span(member)]) == Checked::Good
 }
 
 fn others(array: &Array, member: usize) -> impl Iterator<Item = usize> + use<> {
@@ -126,7 +148,7 @@ fn from_others(array: &Array, stripe: u64, bytes: &[u8], member: usize) -> Answe
 pub fn check(array: &Array, stripe: u64, member: usize, block: &[u8]) -> Answer<Checked> {
     array.place_fits(stripe, member)?;
     sized(block, BLOCK)?;
-    Ok(first_wrong(array, stripe, member, block))
+    Ok(told_of(array, stripe, member, block))
 }
 
 /// The whole stripe over `data`; `bytes` is where it goes.
@@ -152,18 +174,16 @@ pub fn read(array: &Array, block: u64, bytes: &[u8], out: &[u8]) -> Answer<Read>
     let place = array.place(block)?;
     sized(bytes, array.members * BLOCK)?;
     sized(out, DATA)?;
-    if is_good(array, place.stripe, bytes, place.member) {
-        let data = bytes[span(place.member)][..DATA].to_vec();
-        return Ok(Read {
-            rebuilt: false,
-            data,
-        });
-    }
-    let data = from_others(array, place.stripe, bytes, place.member)?;
-    Ok(Read {
-        rebuilt: true,
-        data,
-    })
+    let own = &bytes[span(place.member)];
+    let (source, data) = match told_of(array, place.stripe, place.member, own) {
+        Checked::Good => (Source::Stored, own[..DATA].to_vec()),
+        Checked::Unchecked => (Source::Unchecked, own[..DATA].to_vec()),
+        Checked::Wrong { .. } => {
+            let data = from_others(array, place.stripe, bytes, place.member)?;
+            (Source::Rebuilt, data)
+        }
+    };
+    Ok(Read { source, data })
 }
 
 /// The stripe with one member made from the others.
@@ -197,11 +217,17 @@ pub fn update(array: &Array, block: u64, data: &[u8], bytes: &[u8]) -> Answer<Ve
     Ok(whole)
 }
 
-/// The verdict on members of which some are bad, and on what their data combine to.
-pub fn verdict(bad: &[usize], sum: &[u8]) -> Verdict {
-    if let [member, ..] = *bad {
+/// The verdict on members of which this is said, and on what their data combine to: bad ones go first, then unchecked ones.
+pub fn verdict(members: &[Checked], sum: &[u8]) -> Verdict {
+    let bad = numbers(members, |told| matches!(told, Checked::Wrong { .. }));
+    if let [member, ..] = bad[..] {
         let count = bad.len();
         return Verdict::Bad { member, count };
+    }
+    let unchecked = numbers(members, |told| *told == Checked::Unchecked);
+    if let [member, ..] = unchecked[..] {
+        let count = unchecked.len();
+        return Verdict::Unchecked { member, count };
     }
     match sum.iter().position(|byte| *byte != 0) {
         Some(place) => Verdict::Torn { place },
@@ -209,13 +235,20 @@ pub fn verdict(bad: &[usize], sum: &[u8]) -> Verdict {
     }
 }
 
+/// The members of which such a thing is said.
+fn numbers(members: &[Checked], such: impl Fn(&Checked) -> bool) -> Vec<usize> {
+    (0..members.len())
+        .filter(|member| such(&members[*member]))
+        .collect()
+}
+
 pub fn scrub(array: &Array, stripe: u64, bytes: &[u8]) -> Answer<Verdict> {
     array.stripe_fits(stripe)?;
     sized(bytes, array.members * BLOCK)?;
-    let bad: Vec<usize> = (0..array.members)
-        .filter(|member| !is_good(array, stripe, bytes, *member))
+    let members: Vec<Checked> = (0..array.members)
+        .map(|member| told_of(array, stripe, member, &bytes[span(member)]))
         .collect();
-    Ok(verdict(&bad, &combine(bytes.chunks(BLOCK))))
+    Ok(verdict(&members, &combine(bytes.chunks(BLOCK))))
 }
 
 /// What the guards combine to: they fit where that is zero.

@@ -22,6 +22,15 @@ enum-known-verdict-2 c = search needs
 cast-first-2 : tie.Need-cast-first-2
 cast-first-2 c = let h = rw (c .before .verdict2 .given .1) at (c .before .before .before .pre .0) in omega arith
 
+cast-count-2 : tie.Need-cast-count-2
+cast-count-2 c = let h = rw (c .before .verdict2 .given .1) at (c .before .before .before .pre .1) in omega arith
+
+enum-known-verdict-3 : tie.Need-enum-known-verdict-3
+enum-known-verdict-3 c = search needs
+
+cast-first-3 : tie.Need-cast-first-3
+cast-first-3 c = let h = rw (c .before .verdict3 .given .1) at (c .before .before .before .pre .0) in omega arith
+
 returns : tie.Need-returns
 returns c = rw (c .enum-told .given .1)
 
@@ -30,6 +39,9 @@ returns-2 c = rw (c .before .verdict .given .1)
 
 returns-3 : tie.Need-returns-3
 returns-3 c = rw (c .before .verdict2 .given .1)
+
+returns-4 : tie.Need-returns-4
+returns-4 c = rw (c .before .verdict3 .given .1)
 
 pub found-answer-spec : {M : Type 1} → statement M
 found-answer-spec =
@@ -41,6 +53,10 @@ found-answer-spec =
     cast-count
     enum-known-verdict-2
     cast-first-2
+    cast-count-2
+    enum-known-verdict-3
+    cast-first-3
     returns
     returns-2
-    returns-3)
+    returns-3
+    returns-4)

@@ -7,20 +7,26 @@ use Rattle.report.proofs.count_one.Tie as tie
 enum-told : tie.Need-enum-told
 enum-told c = search needs
 
-add-t6 : tie.Need-add-t6
-add-t6 c = search needs
+add-t7 : tie.Need-add-t7
+add-t7 c = search needs
 
 enum-told-2 : tie.Need-enum-told-2
 enum-told-2 c = search needs
 
-add-t7 : tie.Need-add-t7
-add-t7 c = search needs
+add-t8 : tie.Need-add-t8
+add-t8 c = search needs
 
 enum-told-3 : tie.Need-enum-told-3
 enum-told-3 c = search needs
 
-add-t8 : tie.Need-add-t8
-add-t8 c = search needs
+add-t9 : tie.Need-add-t9
+add-t9 c = search needs
+
+enum-told-4 : tie.Need-enum-told-4
+enum-told-4 c = search needs
+
+add-t10 : tie.Need-add-t10
+add-t10 c = search needs
 
 returns : tie.Need-returns
 unfolding counted
@@ -34,7 +40,23 @@ returns-3 : tie.Need-returns-3
 unfolding counted
 returns-3 c = rw (c .enum-told3 .given .1)
 
+returns-4 : tie.Need-returns-4
+unfolding counted
+returns-4 c = rw (c .enum-told4 .given .1)
+
 pub count-one-spec : {M : Type 1} → statement M
 count-one-spec =
     tie.close
-    (tie.spec enum-told add-t6 enum-told-2 add-t7 enum-told-3 add-t8 returns returns-2 returns-3)
+    (tie.spec
+    enum-told
+    add-t7
+    enum-told-2
+    add-t8
+    enum-told-3
+    add-t9
+    enum-told-4
+    add-t10
+    returns
+    returns-2
+    returns-3
+    returns-4)

@@ -40,6 +40,9 @@ cast-found-3 c = let h = rw (c .before .checked4 .given .1) at (c .before .befor
 cast-expected-3 : tie.Need-cast-expected-3
 cast-expected-3 c = let h = rw (c .before .checked4 .given .1) at (c .before .before .before .pre .1) in omega arith
 
+enum-told-2 : tie.Need-enum-told-2
+enum-told-2 c = search needs
+
 returns : tie.Need-returns
 returns c = rw (c .before .checked .given .1)
 
@@ -54,6 +57,9 @@ returns-4 c = rw (c .before .checked3 .given .1)
 
 returns-5 : tie.Need-returns-5
 returns-5 c = rw (c .before .checked4 .given .1)
+
+returns-6 : tie.Need-returns-6
+returns-6 c = rw (c .enum-told2 .given .1)
 
 pub check-answer-spec : {M : Type 1} → statement M
 check-answer-spec =
@@ -71,8 +77,10 @@ check-answer-spec =
     enum-known-checked-4
     cast-found-3
     cast-expected-3
+    enum-told-2
     returns
     returns-2
     returns-3
     returns-4
-    returns-5)
+    returns-5
+    returns-6)

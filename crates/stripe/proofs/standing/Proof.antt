@@ -1,0 +1,56 @@
+-- `stripe::standing` meets its contract.
+-- Assumes nothing.
+use mathlib.Core.Path.{ap, _∙_}
+use native.Mathlib.Omega.{arith}
+use Rattle.format.specs.Formats.{guard}
+use Rattle.tag.specs.Blocks.{formatAt}
+use Rattle.stripe.proofs.Served.{lent-data}
+use borrow.Author.Needs.{needs}
+use Rattle.stripe.proofs.standing.Statement.{statement}
+use Rattle.stripe.proofs.standing.Tie as tie
+
+block-at-requires : tie.Need-block-at-requires
+block-at-requires c κs = search needs
+
+data-length-requires : tie.Need-data-length-requires
+data-length-requires c κs = search needs
+
+add-end : tie.Need-add-end
+add-end c = let F = formatAt (c .before .before .before .args .array) in omega arith
+
+sub-guard : tie.Need-sub-guard
+sub-guard c = search needs
+
+part-guard-start : tie.Need-part-guard-start
+part-guard-start c = search needs
+
+part-guard-end : tie.Need-part-guard-end
+part-guard-end c = let F = formatAt (c .before .before .before .args .array) in omega arith
+
+guard-requires : tie.Need-guard-requires
+guard-requires c κs = search needs
+
+standing-by-requires : tie.Need-standing-by-requires
+standing-by-requires c κs =
+    let l = c .before .before in
+    let b = l .before in
+    let s = b .before .before in
+    let a = s .args in
+    (s .pre .0, (s .pre .1, c .guard .ensures ∙ ap (guard (formatAt (a .array))) (lent-data (formatAt (a .array)) (a .member) (b .block-at .result) (l .data-length .result) (a .bytes .now) (b .block-at .ensures) (l .data-length .ensures))))
+
+returns : tie.Need-returns
+returns c = search needs
+
+pub standing-spec : {M : Type 1} → statement M
+standing-spec =
+    tie.close
+    (tie.spec
+    block-at-requires
+    data-length-requires
+    add-end
+    sub-guard
+    part-guard-start
+    part-guard-end
+    guard-requires
+    standing-by-requires
+    returns)
