@@ -29,9 +29,14 @@
  *
  * Good, bad, unchecked. On a member of a stripe a block is just one of these. It is unchecked if FFFFh stands in its
  * application tag, whatever its other bytes are: by T10's rule such a block is not to be checked. Else it is good if
- * all three fields are those due there, and bad if one is not. Nobody vouches for the data of an unchecked block: they
- * can be read and replaced, but no call makes other data from them. No call sets the mark: write the two bytes to do
- * so. A rebuild of the block takes it away. A drive that was wiped with FFh reads as unchecked throughout.
+ * all three fields fit, which is to say that each is the one due there, and bad if one does not. Nobody vouches for the
+ * data of an unchecked block: they can be read and replaced, but no call makes other data from them. No call sets the
+ * mark: write the two bytes to do so. A rebuild of the block takes it away. A drive that was wiped with FFh reads as
+ * unchecked throughout.
+ *
+ * Faults. Which fields of a bad block do not fit hints at what happened. The guard: data changed on the drive. The
+ * application tag: the block is of another volume, or parity where data are due or the other way round. The reference
+ * tag: the block belongs to another place. Several at once are told at once, by a check and by a scrub.
  *
  * Refusals. A call that can be refused says so by number, 0 where it is done. It makes its tests in the order in
  * which its numbers are listed, and the first that fails decides. A refused call leaves every buffer as it was
@@ -127,18 +132,28 @@ struct irumbolai_owner irumbolai_owner(size_t members, uint64_t stripes, uint8_t
                                        size_t member);
 
 /*
- * Checks a block against the tag due on a member of a stripe. `field` is 0 if the block is good, 4 if it is unchecked,
- * and `found` and `expected` are 0 then. If it is bad, `field` names the first wrong field (1 guard, 2 application tag,
- * 3 reference tag), `found` is its value in the block and `expected` the value due.
+ * Checks a block against the tag due on a member of a stripe, and tells of each of the three fields what stands in the
+ * block (`found`), what is due there (`expected`; for the guard, that of the block's data), and whether the two are the
+ * same (`fits` 1, else 0). The fields are told of good blocks too. `kind` says how the block stands:
+ *
+ *   0  good: all three fields fit
+ *   1  bad: at least one does not
+ *   2  unchecked: no field is told, all their numbers are 0. Look at `kind` first: `fits` 0 does not mean bad here
  *
  *   lent      block: 520 bytes, read
  *   refusals  1, 2, 3, 5, 6
  */
+struct irumbolai_field {
+    uint64_t found;
+    uint64_t expected;
+    uint32_t fits;
+};
 struct irumbolai_check {
     uint32_t refusal;
-    uint32_t field;
-    uint32_t found;
-    uint32_t expected;
+    uint32_t kind;
+    struct irumbolai_field guard;
+    struct irumbolai_field application;
+    struct irumbolai_field reference;
 };
 struct irumbolai_check irumbolai_check(size_t members, uint64_t stripes, uint8_t volume, uint64_t stripe,
                                        size_t member, const uint8_t *block, size_t length);
@@ -199,12 +214,16 @@ uint32_t irumbolai_update(size_t members, uint64_t stripes, uint8_t volume, uint
 /*
  * The full scrub of a stripe. `kind` is the first of these that fits, in this order:
  *
- *   1  bad: blocks are bad; `first` is the lowest member with one, `count` how many they are, unchecked ones left out
+ *   1  bad: blocks are bad; `first` is the lowest member with one, `count` how many they are, unchecked ones left out.
+ *      `guard_fits`, `application_fits` and `reference_fits` are 1 for each field of the block on `first` that fits and
+ *      0 for each that does not, as irumbolai_check says of that block; of other bad ones ask that call
  *   3  unchecked: blocks are unchecked, and none is bad; `first` is the lowest member with one, `count` how many they
  *      are. Whether the stripe is torn is not said
  *   2  torn: all blocks are good, but the data of all members do not combine to zero by exclusive-or; `first` is the
  *      first byte, 0 to 511, at which they do not, and `count` is 0
  *   0  clean: all blocks are good, and the data combine to zero; `first` and `count` are 0
+ *
+ * Where the kind is not bad the last three are 0, for a clean stripe too.
  *
  *   lent      bytes: the stripe, n x 520 bytes, read
  *   refusals  1, 2, 3, 6
@@ -214,6 +233,9 @@ struct irumbolai_verdict {
     uint32_t kind;
     uint32_t first;
     uint32_t count;
+    uint32_t guard_fits;
+    uint32_t application_fits;
+    uint32_t reference_fits;
 };
 struct irumbolai_verdict irumbolai_scrub(size_t members, uint64_t stripes, uint8_t volume, uint64_t stripe,
                                          const uint8_t *bytes, size_t length);

@@ -51,6 +51,13 @@ static void show_refusal(uint32_t refusal)
     printf("refused %" PRIu32 ", %s\n", refusal, in_words(refusal));
 }
 
+/* The letters of the report: a dash for each field that fits. */
+static void show_letters(struct irumbolai_verdict verdict)
+{
+    printf("%c%c%c", verdict.guard_fits ? '-' : 'G', verdict.application_fits ? '-' : 'A',
+           verdict.reference_fits ? '-' : 'R');
+}
+
 static void show_verdict(const char *name, struct irumbolai_verdict verdict)
 {
     printf("%s: ", name);
@@ -58,9 +65,11 @@ static void show_verdict(const char *name, struct irumbolai_verdict verdict)
         show_refusal(verdict.refusal);
     else if (verdict.kind == 0)
         printf("clean\n");
-    else if (verdict.kind == 1)
-        printf("bad, lowest member %" PRIu32 ", %" PRIu32 " in all\n", verdict.first, verdict.count);
-    else if (verdict.kind == 2)
+    else if (verdict.kind == 1) {
+        printf("bad, lowest member %" PRIu32 " ", verdict.first);
+        show_letters(verdict);
+        printf(", %" PRIu32 " in all\n", verdict.count);
+    } else if (verdict.kind == 2)
         printf("torn, first at byte %" PRIu32 "\n", verdict.first);
     else
         printf("unchecked, lowest member %" PRIu32 ", %" PRIu32 " in all\n", verdict.first, verdict.count);
@@ -68,7 +77,9 @@ static void show_verdict(const char *name, struct irumbolai_verdict verdict)
 
 static bool same(struct irumbolai_verdict a, struct irumbolai_verdict b)
 {
-    return a.refusal == b.refusal && a.kind == b.kind && a.first == b.first && a.count == b.count;
+    return a.refusal == b.refusal && a.kind == b.kind && a.first == b.first && a.count == b.count &&
+           a.guard_fits == b.guard_fits && a.application_fits == b.application_fits &&
+           a.reference_fits == b.reference_fits;
 }
 
 static const uint8_t *block_of(const struct stripe *stripe, size_t member)
@@ -101,25 +112,36 @@ static uint16_t stored_guard(const uint8_t *block)
     return (uint16_t)(block[DATA_BYTES] << 8 | block[DATA_BYTES + 1]);
 }
 
-/* A member: its guard as stored and as its data ask for, and whether the block is the one that belongs there. */
+/* A field of a tag, with so many digits: as found, as expected, and whether they are the same. */
+static void show_field(const char *name, int digits, struct irumbolai_field field)
+{
+    printf("    %s found %0*" PRIX64 ", expected %0*" PRIX64 ": %s\n", name, digits, field.found, digits,
+           field.expected, field.fits ? "fits" : "WRONG");
+}
+
+/*
+ * A member: its guard as stored and as its data ask for, whether the block is the one that belongs there, and each field
+ * of its tag. Of an unchecked block no fields are told.
+ */
 static void show_member(const struct stripe *stripe, size_t member)
 {
-    static const char *const fields[] = {"", "guard", "application tag", "reference tag"};
-    static const int digits[] = {0, 4, 4, 8};
     const uint8_t *block = block_of(stripe, member);
     struct irumbolai_check check = check_member(stripe, member);
 
     printf("member %zu: guard stored %04X, due %04X: ", member, (unsigned)stored_guard(block),
            (unsigned)irumbolai_guard(block, DATA_BYTES));
-    if (check.refusal != 0)
+    if (check.refusal != 0) {
         show_refusal(check.refusal);
-    else if (check.field == 0)
-        printf("good\n");
-    else if (check.field == 4)
+        return;
+    }
+    if (check.kind == 2) {
         printf("unchecked\n");
-    else
-        printf("bad, %s found %0*" PRIX32 ", expected %0*" PRIX32 "\n", fields[check.field], digits[check.field],
-               check.found, digits[check.field], check.expected);
+        return;
+    }
+    printf("%s\n", check.kind == 0 ? "good" : "bad");
+    show_field("guard", 4, check.guard);
+    show_field("application tag", 4, check.application);
+    show_field("reference tag", 8, check.reference);
 }
 
 /* The quick scrub: the stored guards alone. */

@@ -8,6 +8,9 @@ struct Answer {
     kind: u32,
     first: u32,
     count: u32,
+    guard_fits: u32,
+    application_fits: u32,
+    reference_fits: u32,
 }
 
 #[repr(C)]
@@ -150,6 +153,12 @@ fn verdict(answer: Answer) -> Verdict {
         1 => Verdict::Bad {
             member: answer.first as usize,
             count: answer.count as usize,
+            fits: [
+                answer.guard_fits,
+                answer.application_fits,
+                answer.reference_fits,
+            ]
+            .map(|fits| fits == 1),
         },
         2 => Verdict::Torn {
             place: answer.first as usize,

@@ -1,6 +1,6 @@
 //! The same jobs in ordinary Rust, over two ways to make guards: a loop over bits, and ISA-L, the latter with two ways to combine.
 
-use crate::stripes::{BLOCK, DATA, MEMBERS, VOLUME, Verdict, blocks};
+use crate::stripes::{BLOCK, DATA, Fits, MEMBERS, VOLUME, Verdict, blocks};
 use std::array;
 
 pub trait Peer {
@@ -179,7 +179,7 @@ fn due(stripe: u64, member: usize, guard: u16) -> [u8; 8] {
 #[derive(Clone, Copy, PartialEq)]
 enum Standing {
     Good,
-    Bad,
+    Bad(Fits),
     Unchecked,
 }
 
@@ -190,7 +190,8 @@ fn standing(tag: &[u8], due: [u8; 8]) -> Standing {
     } else if tag[2..4] == [0xFF; 2] {
         Standing::Unchecked
     } else {
-        Standing::Bad
+        let fields = [0..2, 2..4, 4..8];
+        Standing::Bad(fields.map(|field| tag[field.clone()] == due[field]))
     }
 }
 
@@ -201,14 +202,24 @@ fn standing_at<P: Peer>(stripe: u64, member: usize, block: &[u8]) -> Standing {
 
 /// What is said of a stripe: how its members stand, and what its data combine to.
 fn verdict(members: [Standing; MEMBERS], sum: &[u8; DATA]) -> Verdict {
-    let lowest = |kind| members.iter().position(|member| *member == kind);
-    let count = |kind| members.iter().filter(|member| **member == kind).count();
-    if let Some(member) = lowest(Standing::Bad) {
-        let count = count(Standing::Bad);
-        return Verdict::Bad { member, count };
+    let mut bad = members
+        .iter()
+        .enumerate()
+        .filter_map(|(member, standing)| match standing {
+            Standing::Bad(fits) => Some((member, *fits)),
+            _ => None,
+        });
+    if let Some((member, fits)) = bad.next() {
+        let count = 1 + bad.count();
+        return Verdict::Bad {
+            member,
+            count,
+            fits,
+        };
     }
-    if let Some(member) = lowest(Standing::Unchecked) {
-        let count = count(Standing::Unchecked);
+    let mut unchecked = (0..MEMBERS).filter(|member| members[*member] == Standing::Unchecked);
+    if let Some(member) = unchecked.next() {
+        let count = 1 + unchecked.count();
         return Verdict::Unchecked { member, count };
     }
     if *sum == [0; DATA] {

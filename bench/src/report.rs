@@ -183,9 +183,17 @@ fn report(
                 clean += 1;
                 writeln!(output, "{stripe} CLEAN")?;
             }
-            Verdict::Bad { member, count } => {
+            Verdict::Bad {
+                member,
+                count,
+                fits,
+            } => {
                 bad += 1;
-                writeln!(output, "{stripe} BAD {member} {count}")?;
+                write!(output, "{stripe} BAD {member} {count} ")?;
+                for (letter, fits) in ['G', 'A', 'R'].into_iter().zip(fits) {
+                    write!(output, "{}", if fits { '-' } else { letter })?;
+                }
+                writeln!(output)?;
             }
             Verdict::Unchecked { member, count } => {
                 unchecked += 1;

@@ -10,12 +10,24 @@ pub const STRIPE: usize = MEMBERS * BLOCK;
 pub const STRIPES: u64 = 268_435_456;
 pub const VOLUME: u8 = 7;
 
+/// Guard, application tag and reference tag: whether each fits.
+pub type Fits = [bool; 3];
+
 #[derive(Clone, Copy, Debug, PartialEq)]
 pub enum Verdict {
     Clean,
-    Bad { member: usize, count: usize },
-    Unchecked { member: usize, count: usize },
-    Torn { place: usize },
+    Bad {
+        member: usize,
+        count: usize,
+        fits: Fits,
+    },
+    Unchecked {
+        member: usize,
+        count: usize,
+    },
+    Torn {
+        place: usize,
+    },
 }
 
 impl Verdict {
@@ -23,7 +35,16 @@ impl Verdict {
     pub fn number(self) -> u64 {
         match self {
             Verdict::Clean => 0,
-            Verdict::Bad { member, count } => 1 << 32 | (member as u64) << 16 | count as u64,
+            Verdict::Bad {
+                member,
+                count,
+                fits,
+            } => {
+                let fits = fits
+                    .iter()
+                    .fold(0, |number, fits| number << 1 | u64::from(*fits));
+                1 << 32 | fits << 24 | (member as u64) << 16 | count as u64
+            }
             Verdict::Torn { place } => 2 << 32 | place as u64,
             Verdict::Unchecked { member, count } => 3 << 32 | (member as u64) << 16 | count as u64,
         }

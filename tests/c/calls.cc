@@ -108,12 +108,33 @@ static Bytes sealed()
     return joined(stripe, joined(ending({2}), {0x9C, 0xD9, 0, 7, 0, 0, 0, 1}));
 }
 
-static void due_verdict(struct irumbolai_verdict verdict, uint32_t refusal, uint32_t kind, uint32_t first, uint32_t count)
+// The letters of the report stand for which fields of the lowest bad member fit; all three are 0 where none is bad.
+static void due_verdict(struct irumbolai_verdict verdict, uint32_t refusal, uint32_t kind, uint32_t first, uint32_t count, const char *letters = "GAR")
 {
     DUE(verdict.refusal, refusal);
     DUE(verdict.kind, kind);
     DUE(verdict.first, first);
     DUE(verdict.count, count);
+    DUE(verdict.guard_fits, letters[0] == '-');
+    DUE(verdict.application_fits, letters[1] == '-');
+    DUE(verdict.reference_fits, letters[2] == '-');
+}
+
+static void due_field(struct irumbolai_field field, uint64_t found, uint64_t expected, uint32_t fits)
+{
+    DUE(field.found, found);
+    DUE(field.expected, expected);
+    DUE(field.fits, fits);
+}
+
+// A check that tells no fields: refused, or of an unchecked block.
+static void due_untold(struct irumbolai_check checked, uint32_t refusal, uint32_t kind)
+{
+    DUE(checked.refusal, refusal);
+    DUE(checked.kind, kind);
+    due_field(checked.guard, 0, 0, 0);
+    due_field(checked.application, 0, 0, 0);
+    due_field(checked.reference, 0, 0, 0);
 }
 
 static void places()
@@ -153,32 +174,41 @@ static void checks()
     Bytes block = joined(ending({3}), {0x8B, 0xB7, 0, 7, 0, 0, 0, 0});
     struct irumbolai_check checked = check(three, 0, 1, block);
     DUE(checked.refusal, 0);
-    DUE(checked.field, 1);
-    DUE(checked.found, 0x8BB7);
-    DUE(checked.expected, 0x176E);
+    DUE(checked.kind, 1);
+    due_field(checked.guard, 0x8BB7, 0x176E, 0);
+    due_field(checked.application, 7, 7, 1);
+    due_field(checked.reference, 0, 0, 1);
     block[511] = 1;
     checked = check(three, 0, 1, block);
     DUE(checked.refusal, 0);
-    DUE(checked.field, 0);
+    DUE(checked.kind, 0);
+    due_field(checked.guard, 0x8BB7, 0x8BB7, 1);
+    due_field(checked.application, 7, 7, 1);
+    due_field(checked.reference, 0, 0, 1);
     checked = check(three, 0, 2, block);
-    DUE(checked.field, 3);
-    DUE(checked.found, 0);
-    DUE(checked.expected, 1);
+    DUE(checked.refusal, 0);
+    DUE(checked.kind, 1);
+    due_field(checked.guard, 0x8BB7, 0x8BB7, 1);
+    due_field(checked.application, 7, 7, 1);
+    due_field(checked.reference, 0, 1, 0);
+    checked = check({5, 70000, 9}, 65536, 1, joined(ending({3}), {0x12, 0x34, 0x56, 0x78, 0x9A, 0xBC, 0xDE, 0xF0}));
+    DUE(checked.refusal, 0);
+    DUE(checked.kind, 1);
+    due_field(checked.guard, 0x1234, 0x176E, 0);
+    due_field(checked.application, 0x5678, 0x8009, 0);
+    due_field(checked.reference, 0x9ABCDEF0, 0x00040000, 0);
     block[514] = block[515] = 0xFF;
-    for (size_t member = 0; member < 3; member++) {
-        checked = check(three, 0, member, block);
-        DUE(checked.refusal, 0);
-        DUE(checked.field, 4);
-        DUE(checked.found, 0);
-        DUE(checked.expected, 0);
-    }
+    for (size_t member = 0; member < 3; member++)
+        due_untold(check(three, 0, member, block), 0, 2);
     block[515] = 0xFE;
     checked = check(three, 0, 1, block);
-    DUE(checked.field, 2);
-    DUE(checked.found, 0xFFFE);
-    DUE(checked.expected, 7);
+    DUE(checked.kind, 1);
+    due_field(checked.guard, 0x8BB7, 0x8BB7, 1);
+    due_field(checked.application, 0xFFFE, 7, 0);
+    due_field(checked.reference, 0, 0, 1);
+    due_untold(check(three, 0, 3, block), 5, 0);
     block.pop_back();
-    DUE(check(three, 0, 1, block).refusal, 6);
+    due_untold(check(three, 0, 1, block), 6, 0);
 }
 
 static void jobs()
@@ -234,7 +264,7 @@ static void unchecked()
 
     stripe = marked(stripe);
     stripe[2 * 520] ^= 1;
-    due_verdict(scrub(three, 0, stripe), 0, 1, 2, 1);
+    due_verdict(scrub(three, 0, stripe), 0, 1, 2, 1, "G--");
     DUE(read_block(three, 1, stripe, out).refusal, 9);
 }
 
@@ -244,7 +274,13 @@ static void scrubs()
     due_verdict(scrub(three, 0, stripe), 0, 0, 0, 0);
     stripe[2 * 520] ^= 1;
     stripe[520 + 519] ^= 1;
-    due_verdict(scrub(three, 0, stripe), 0, 1, 1, 2);
+    due_verdict(scrub(three, 0, stripe), 0, 1, 1, 2, "--R");
+    stripe[520 + 515] ^= 1;
+    due_verdict(scrub(three, 0, stripe), 0, 1, 1, 2, "-AR");
+    stripe[520 + 513] ^= 1;
+    due_verdict(scrub(three, 0, stripe), 0, 1, 1, 2, "GAR");
+    stripe[514] = 0;
+    due_verdict(scrub(three, 0, stripe), 0, 1, 0, 3, "-A-");
     due_verdict(scrub({3, 0, 7}, 0, stripe), 2, 0, 0, 0);
     stripe = torn({0x01, 0x8B, 0xB7}, 0, 0);
     due_verdict(scrub(three, 0, stripe), 0, 2, 509, 0);
@@ -317,9 +353,13 @@ int main()
     states();
     due_verdict(scanned(sealed()), 0, 0, 0, 0);
     due_verdict(scanned(torn({0x01, 0x8B, 0xB6}, 0x8B, 0xB7)), 0, 2, 509, 0);
-    due_verdict(scanned(torn({0x01, 0x8B, 0xB6}, 0x8B, 0xB6)), 0, 1, 0, 1);
+    due_verdict(scanned(torn({0x01, 0x8B, 0xB6}, 0x8B, 0xB6)), 0, 1, 0, 1, "G--");
     due_verdict(scanned(marked(torn({0x01, 0x8B, 0xB6}, 0x8B, 0xB7))), 0, 3, 1, 1);
-    due_verdict(scanned(marked(torn({0x01, 0x8B, 0xB6}, 0x8B, 0xB6))), 0, 1, 0, 1);
+    due_verdict(scanned(marked(torn({0x01, 0x8B, 0xB6}, 0x8B, 0xB6))), 0, 1, 0, 1, "G--");
+    Bytes spoilt = marked(sealed());
+    spoilt[2 * 520 + 512] ^= 0x80;
+    spoilt[2 * 520 + 519] ^= 1;
+    due_verdict(scanned(spoilt), 0, 1, 2, 1, "G-R");
     std::printf("every call from C++, %d values as due\n", compared);
     return 0;
 }

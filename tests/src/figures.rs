@@ -6,7 +6,7 @@ use model::join;
 use model::layout::{Array, Owner, Place};
 use model::report;
 use model::scan::History;
-use model::stripe::{self, BLOCK, Checked, DATA, Source, Verdict};
+use model::stripe::{self, BLOCK, Checked, DATA, Field, Fields, Fits, Source, Verdict};
 use std::fmt::Debug;
 
 /// Figures that were right, or the first that was not.
@@ -118,17 +118,17 @@ impl Figures {
         let three = array(3, 1);
         let sealed = sealed();
         self.due("parity", &sealed[508..DATA], &[0, 0, 0, 3])?;
-        for (member, tag) in [
-            (0, [0x17, 0x6E, 0x80, 7, 0, 0, 0, 0]),
-            (1, [0x8B, 0xB7, 0x00, 7, 0, 0, 0, 0]),
-            (2, [0x9C, 0xD9, 0x00, 7, 0, 0, 0, 1]),
+        for (member, tag, numbers) in [
+            (0, [0x17, 0x6E, 0x80, 7, 0, 0, 0, 0], [0x176E, 0x8007, 0]),
+            (1, [0x8B, 0xB7, 0x00, 7, 0, 0, 0, 0], [0x8BB7, 0x0007, 0]),
+            (2, [0x9C, 0xD9, 0x00, 7, 0, 0, 0, 1], [0x9CD9, 0x0007, 1]),
         ] {
             let block = &sealed[stripe::span(member)];
             self.due("tag", &block[DATA..], &tag)?;
             self.due(
                 "check",
                 stripe::check(&three, 0, member, block),
-                Ok(Checked::Good),
+                Ok(Checked::Good(fields(numbers, numbers))),
             )?;
         }
         self.due(
@@ -229,11 +229,80 @@ impl Figures {
         let bad = Verdict::Bad {
             member: 2,
             count: 1,
+            fits: Fits {
+                guard: false,
+                ..Fits::ALL
+            },
         };
         let scrubbed = stripe::scrub(&three, 0, &bytes);
         self.due("scrub, another bad", scrubbed, Ok(bad))?;
         let read = stripe::read(&three, 1, &bytes, &[0; DATA]);
         self.due("read of that one", read, Err(9))
+    }
+
+    /// The sealed stripe with its blocks on other members, or its last byte changed: what is found and expected, and the letters.
+    fn faults(&mut self) -> Result<(), String> {
+        const PARITY: [u64; 3] = [0x176E, 0x8007, 0];
+        const BLOCKS: [[u64; 3]; 2] = [[0x8BB7, 0x0007, 0], [0x9CD9, 0x0007, 1]];
+        let three = array(3, 1);
+        let rows = [
+            (
+                "blocks exchanged",
+                [0, 2, 1],
+                1,
+                BLOCKS[1],
+                [0x9CD9, 7, 0],
+                "1 2 --R",
+            ),
+            (
+                "block 0 and parity exchanged",
+                [1, 0, 2],
+                0,
+                BLOCKS[0],
+                [0x8BB7, 0x8007, 0],
+                "0 2 -A-",
+            ),
+            (
+                "block 1 and parity exchanged",
+                [2, 1, 0],
+                0,
+                BLOCKS[1],
+                [0x9CD9, 0x8007, 0],
+                "0 2 -AR",
+            ),
+            (
+                "the parity on all members",
+                [0, 0, 0],
+                1,
+                PARITY,
+                [0x176E, 7, 0],
+                "1 2 -A-",
+            ),
+        ];
+        for (what, from, member, found, expected, line) in rows {
+            let sealed = sealed();
+            let bytes = from.map(|member| &sealed[stripe::span(member)]).concat();
+            let said = stripe::check(&three, 0, member, &bytes[stripe::span(member)]);
+            self.due(what, said, Ok(Checked::Bad(fields(found, expected))))?;
+            self.bad_line(what, &bytes, line)?;
+        }
+        let mut bytes = sealed();
+        bytes[stripe::span(1)][DATA - 1] = 3;
+        let said = stripe::check(&three, 0, 1, &bytes[stripe::span(1)]);
+        let expected = fields(BLOCKS[0], [0x176E, 0x0007, 0]);
+        self.due("last byte changed", said, Ok(Checked::Bad(expected)))?;
+        self.bad_line("last byte changed", &bytes, "1 1 G--")?;
+        bytes.fill(1);
+        self.bad_line("all bytes 01", &bytes, "0 3 GAR")
+    }
+
+    /// The report on the bench's stripe, damaged.
+    fn bad_line(&mut self, what: &str, bytes: &[u8], line: &str) -> Result<(), String> {
+        let image = [&report::header(&array(3, 1))[..], bytes].concat();
+        let due = format!(
+            "SCRUB v1 members 3 stripes 1\n0 BAD {line}\nTOTAL 1 clean 0 bad 1 unchecked 0 torn 0\n"
+        );
+        self.due(what, report::report(&image), due)
     }
 
     fn pieces(&mut self) -> Result<(), String> {
@@ -268,6 +337,19 @@ fn array(members: usize, stripes: u64) -> Array {
     }
 }
 
+/// Guard, application tag and reference tag as found and as expected.
+fn fields(found: [u64; 3], expected: [u64; 3]) -> Fields {
+    let field = |at| Field {
+        found: found[at],
+        expected: expected[at],
+    };
+    Fields {
+        guard: field(0),
+        application: field(1),
+        reference: field(2),
+    }
+}
+
 /// The bench's stripe: zeros, but for the last bytes 01 and 02.
 fn sealed() -> Vec<u8> {
     let mut data = [0; 2 * DATA];
@@ -285,6 +367,7 @@ pub fn check(_: &mut Random) -> Result<String, String> {
     figures.report()?;
     figures.torn_stripes()?;
     figures.marked_stripe()?;
+    figures.faults()?;
     figures.pieces()?;
     Ok(format!("{} right in the model itself", figures.right))
 }

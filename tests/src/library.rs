@@ -20,14 +20,23 @@ pub struct Owner {
     pub block: u64,
 }
 
-/// Field 0 is good, 1 the guard, 2 the application tag, 3 the reference tag, 4 unchecked.
+#[repr(C)]
+#[derive(Clone, Copy, Debug, Default, PartialEq)]
+pub struct Field {
+    pub found: u64,
+    pub expected: u64,
+    pub fits: u32,
+}
+
+/// Kind 0 is good, 1 bad, 2 unchecked.
 #[repr(C)]
 #[derive(Clone, Copy, Debug, PartialEq)]
 pub struct Check {
     pub refusal: u32,
-    pub field: u32,
-    pub found: u32,
-    pub expected: u32,
+    pub kind: u32,
+    pub guard: Field,
+    pub application: Field,
+    pub reference: Field,
 }
 
 /// Kind 0 is stored, 1 rebuilt, 2 unchecked.
@@ -38,7 +47,7 @@ pub struct Read {
     pub kind: u32,
 }
 
-/// Kind 0 is clean, 1 bad and 3 unchecked (`first` is a member), 2 torn (`first` is a place).
+/// Kind 0 is clean, 1 bad and 3 unchecked (`first` is a member), 2 torn (`first` is a place). The last three speak of a bad member.
 #[repr(C)]
 #[derive(Clone, Copy, Debug, PartialEq)]
 pub struct Verdict {
@@ -46,6 +55,9 @@ pub struct Verdict {
     pub kind: u32,
     pub first: u32,
     pub count: u32,
+    pub guard_fits: u32,
+    pub application_fits: u32,
+    pub reference_fits: u32,
 }
 
 #[repr(C)]

@@ -26,6 +26,7 @@ const PARTS: &[(&str, Comparison)] = &[
     ("scrub", compare::scrub::compare),
     ("scan", compare::scan::compare),
     ("standing", compare::standing::compare),
+    ("faults", compare::faults::compare),
     ("images", compare::images::compare),
     ("large image", compare::large::compare),
 ];

@@ -1,4 +1,4 @@
-// Stripes of the bench table: one sealed, updated and then marked, and two torn ones.
+// Stripes of the bench table: one sealed, updated, then marked, then changed, and two torn ones.
 use crate::text::four_digits;
 use crate::text::named;
 use crate::text::two_digits;
@@ -15,7 +15,8 @@ fn three() -> Array {
     layout::array_of(3, 1, 7)
 }
 
-// Data zero but for the last bytes 01 and 02; then block 0 updated to zeros; then its application tag set to FFFFh.
+// Data zero but for the last bytes 01 and 02; then block 0 updated to zeros; then its application tag set to FFFFh; then the
+// tag as it was and the last byte of the data changed.
 pub fn sealed() {
     let mut content = [0u8; 1024];
     content[511] = 1;
@@ -31,6 +32,11 @@ pub fn sealed() {
     bytes[1034] = 0xFF;
     bytes[1035] = 0xFF;
     io::write_all(STDOUT_FILENO, b"block 0 marked, tag of       is\n");
+    shown(&bytes);
+    bytes[1034] = 0;
+    bytes[1035] = 7;
+    bytes[1031] = 1;
+    io::write_all(STDOUT_FILENO, b"block 0 changed, tag of      is\n");
     shown(&bytes);
 }
 
@@ -126,9 +132,14 @@ fn finding(found: Verdict) {
         Verdict::Clean => {
             io::write_all(STDOUT_FILENO, b"clean");
         }
-        Verdict::Bad { member, count } => {
+        Verdict::Bad {
+            member,
+            count,
+            faults,
+        } => {
             named(b"bad, member ", member as u64);
             named(b" count ", count as u64);
+            named(b" faults ", faults as u64);
         }
         Verdict::Torn { place } => named(b"torn, place ", place as u64),
         Verdict::Unchecked { member, count } => {

@@ -15,9 +15,9 @@ use Rattle.layout.specs.declared.Array.{Array}
 use Rattle.layout.proofs.Answers.{refuse-none}
 use Rattle.layout.proofs.Ranges.{stripe-sound}
 use Rattle.tag.specs.Blocks.{formatAt, dataOf}
-use Rattle.verdict.specs.Verdicts.{count, lowest, standingAs, judged}
+use Rattle.verdict.specs.Verdicts.{count, lowest, standingIn, judged}
 use Rattle.verdict.proofs.Flags.{count-most}
-use Rattle.verdict.proofs.Verdicts.{Judged, of-bad, of-unchecked, of-torn, of-clean, judged-case, length-standingAs, length-nonzero, judged-refused}
+use Rattle.verdict.proofs.Verdicts.{Judged, of-bad, of-unchecked, of-torn, of-clean, judged-case, length-standingIn, length-nonzero, judged-refused}
 use Rattle.stripe.specs.Tables.{table, all}
 use Rattle.stripe.specs.Stripes.{blockOf}
 use Rattle.stripe.specs.Formats.{Summary, summaryOf}
@@ -41,15 +41,15 @@ lowest-most (false ∷ flags) = suc-le-suc (lowest-most flags)
 judged-small : (members : List ℕ) (torn : List Bool) → length members ≤ mostData → length torn ≤ mostData → Small (1 ∷ 0 ∷ judged members torn)
 judged-small members torn b t = by-case (judged-case members torn)
   where
-    few-lowest : (k : ℕ) → lowest (standingAs k members) ≤ mostData
-    few-lowest k = omega (arith, lowest-most (standingAs k members), length-standingAs k members)
+    few-lowest : (least most : ℕ) → lowest (standingIn least most members) ≤ mostData
+    few-lowest least most = omega (arith, lowest-most (standingIn least most members), length-standingIn least most members)
 
-    few-count : (k : ℕ) → count (standingAs k members) ≤ mostData
-    few-count k = omega (arith, count-most (standingAs k members), length-standingAs k members)
+    few-count : (least most : ℕ) → count (standingIn least most members) ≤ mostData
+    few-count least most = omega (arith, count-most (standingIn least most members), length-standingIn least most members)
 
     by-case : {l : List ℕ} → Judged members torn l → Small (1 ∷ 0 ∷ l)
-    by-case (of-bad p) = record { first = few-lowest 1; count = few-count 1 }
-    by-case (of-unchecked p q) = record { first = few-lowest 2; count = few-count 2 }
+    by-case (of-bad p) = record { first = few-lowest 1 7; count = few-count 1 7 }
+    by-case (of-unchecked p q) = record { first = few-lowest 8 8; count = few-count 8 8 }
     by-case (of-torn p q r) = record { first = omega (arith, lowest-most torn); count = zero-le }
     by-case (of-clean p q r) = record { first = zero-le; count = zero-le }
 

@@ -1,13 +1,16 @@
 -- What C gets: the numbers of each call's answer in the fields of a struct. Assumes nothing.
-use Prim.Native.Nat.{ℕ}
-use mathlib.Core.List.{List, [], _∷_}
-use lib.ListN.{drop}
+use Prim.Native.Nat.{ℕ, _-_, _/_, _%_}
+use mathlib.Core.Bool.{cond}
+use mathlib.Core.List.{List, [], _∷_, _++_}
+use lib.Dec.{eqb}
+use lib.ListN.{getD, drop}
 use Rattle.layout.specs.Arrays.{arrayOf}
 use Rattle.layout.specs.declared.Placed.{Placed}
 use Rattle.layout.specs.declared.Placed.the-variants.{Refused, At}
 use Rattle.scan.specs.declared.Scan.{Scan}
 use Rattle.irumbolai.specs.declared.PlaceAnswer.{PlaceAnswer}
 use Rattle.irumbolai.specs.declared.OwnerAnswer.{OwnerAnswer}
+use Rattle.irumbolai.specs.declared.FieldAnswer.{FieldAnswer}
 use Rattle.irumbolai.specs.declared.CheckAnswer.{CheckAnswer}
 use Rattle.irumbolai.specs.declared.ReadAnswer.{ReadAnswer}
 use Rattle.irumbolai.specs.declared.VerdictAnswer.{VerdictAnswer}
@@ -29,6 +32,16 @@ scanOf s =
 abbrev pub unflagged : List ℕ → List ℕ
 unflagged numbers = drop 1 numbers
 
+-- of a verdict's numbers the last, the faults of a bad member, set out field by field: 1 where the field fits; all 0 where no member is bad
+abbrev pub fits : ℕ → ℕ → ℕ
+fits kind fault = cond (eqb kind 1) (1 - fault) 0
+
+abbrev pub spread : List ℕ → List ℕ
+spread l =
+    let kind = getD l 1 0 in
+    let faults = getD l 4 0 in
+    getD l 0 0 ∷ kind ∷ getD l 2 0 ∷ getD l 3 0 ∷ fits kind (faults / 4 % 2) ∷ fits kind (faults / 2 % 2) ∷ fits kind (faults % 2) ∷ []
+
 -- the member in an answer of `place`, 0 where there is none
 abbrev pub memberAnswered : Placed → ℕ
 memberAnswered (Refused number) = 0
@@ -41,14 +54,17 @@ placeFields r = r .refusal ∷ r .stripe ∷ r .member ∷ []
 abbrev pub ownerFields : OwnerAnswer → List ℕ
 ownerFields r = r .refusal ∷ r .parity ∷ r .block ∷ []
 
+abbrev pub fieldNumbers : FieldAnswer → List ℕ
+fieldNumbers f = f .found ∷ f .expected ∷ f .fits ∷ []
+
 abbrev pub checkFields : CheckAnswer → List ℕ
-checkFields r = r .refusal ∷ r .field ∷ r .found ∷ r .expected ∷ []
+checkFields r = r .refusal ∷ r .kind ∷ fieldNumbers (r .guard) ++ fieldNumbers (r .application) ++ fieldNumbers (r .reference)
 
 abbrev pub readFields : ReadAnswer → List ℕ
 readFields r = r .refusal ∷ r .kind ∷ []
 
 abbrev pub verdictFields : VerdictAnswer → List ℕ
-verdictFields r = r .refusal ∷ r .kind ∷ r .first ∷ r .count ∷ []
+verdictFields r = r .refusal ∷ r .kind ∷ r .first ∷ r .count ∷ r .«guard_fits» ∷ r .«application_fits» ∷ r .«reference_fits» ∷ []
 
 abbrev pub quickFields : QuickAnswer → List ℕ
 quickFields r = r .refusal ∷ r .differs ∷ r .combination ∷ []

@@ -6,13 +6,13 @@ mod scrubs;
 mod stripes;
 
 ghost use mathlib.Core.Path.{_≡_};
-ghost use mathlib.Core.List.{_∷_};
-ghost use Prim.Native.Nat.{_<_};
+ghost use mathlib.Core.List.{[], _∷_};
+ghost use Prim.Native.Nat.{_-_, _/_, _%_, _<_};
 ghost use lib.ListN.{getD};
 ghost use Rattle.crc.specs.Blocks.{guardsOf};
 ghost use Rattle.crc.specs.Guard.{guard};
 ghost use Rattle.verdict.specs.Verdicts.{verdictNumbers, scrubbedNumbers};
-ghost use Rattle.irumbolai.specs.Answers.{unflagged, verdictFields};
+ghost use Rattle.irumbolai.specs.Answers.{unflagged, verdictFields, spread};
 use format::MOST_TAGS;
 use verdict::Scrubbed;
 use verdict::Verdict;
@@ -39,13 +39,22 @@ pub struct OwnerAnswer {
     pub block: u64,
 }
 
-// What a check of a block says.
+// A field of a tag as found and as expected, and whether they are the same.
+#[repr(C)]
+pub struct FieldAnswer {
+    pub found: u64,
+    pub expected: u64,
+    pub fits: u32,
+}
+
+// What a check of a block says: kind 0 good, 1 bad, 2 unchecked, and the three fields of its tag.
 #[repr(C)]
 pub struct CheckAnswer {
     pub refusal: u32,
-    pub field: u32,
-    pub found: u32,
-    pub expected: u32,
+    pub kind: u32,
+    pub guard: FieldAnswer,
+    pub application: FieldAnswer,
+    pub reference: FieldAnswer,
 }
 
 // What a verified read says: kind 0 stored, 1 rebuilt, 2 unchecked.
@@ -55,13 +64,17 @@ pub struct ReadAnswer {
     pub kind: u32,
 }
 
-// What a scrub says: kind 0 clean, 1 bad (the lowest bad member and their count), 2 torn (the first place), 3 unchecked (as bad).
+// What a scrub says: kind 0 clean, 1 bad (the lowest bad member, their count, and which of its fields fit), 2 torn (the first place),
+// 3 unchecked (the lowest unchecked member and their count).
 #[repr(C)]
 pub struct VerdictAnswer {
     pub refusal: u32,
     pub kind: u32,
     pub first: u32,
     pub count: u32,
+    pub guard_fits: u32,
+    pub application_fits: u32,
+    pub reference_fits: u32,
 }
 
 // What a quick scrub says.
@@ -108,47 +121,71 @@ pub extern "C" fn irumbolai_guards(bytes: &[u8], stride: usize) -> GuardsAnswer
     GuardsAnswer { guard }
 }
 
+// Whether a field fits, by its fault.
+fn fit(fault: u8) -> u32
+    ensures { λ r. ⌜ r ≡ 1 - fault ⌝ }
+{
+    if fault == 0 { 1 } else { 0 }
+}
+
+// An answer that speaks of no bad member.
+fn no_fault(refusal: u32, kind: u32, first: u32, count: u32) -> VerdictAnswer
+    ensures { λ r. ⌜ verdictFields r ≡ refusal ∷ kind ∷ first ∷ count ∷ 0 ∷ 0 ∷ 0 ∷ [] ⌝ }
+{
+    VerdictAnswer {
+        refusal,
+        kind,
+        first,
+        count,
+        guard_fits: 0,
+        application_fits: 0,
+        reference_fits: 0,
+    }
+}
+
+// A bad member for C.
+fn bad_answer(first: u32, count: u32, faults: u8) -> VerdictAnswer
+    ensures { λ r. ⌜ verdictFields r ≡ 0 ∷ 1 ∷ first ∷ count ∷ (1 - faults / 4 % 2) ∷ (1 - faults / 2 % 2) ∷ (1 - faults % 2) ∷ [] ⌝ }
+{
+    let guard_fits = fit(faults / 4 % 2);
+    let application_fits = fit(faults / 2 % 2);
+    let reference_fits = fit(faults % 2);
+    VerdictAnswer {
+        refusal: 0,
+        kind: 1,
+        first,
+        count,
+        guard_fits,
+        application_fits,
+        reference_fits,
+    }
+}
+
 // A verdict for C.
 fn found_answer(verdict: Verdict) -> VerdictAnswer
     requires { ⌜ getD (verdictNumbers verdict) 1 0 < 4294967296 ⌝ }
     requires { ⌜ getD (verdictNumbers verdict) 2 0 < 4294967296 ⌝ }
-    ensures { λ r. ⌜ verdictFields r ≡ 0 ∷ verdictNumbers verdict ⌝ }
+    ensures { λ r. ⌜ verdictFields r ≡ spread (0 ∷ verdictNumbers verdict) ⌝ }
 {
     match verdict {
-        Verdict::Clean => VerdictAnswer {
-            refusal: 0,
-            kind: 0,
-            first: 0,
-            count: 0,
-        },
-        Verdict::Bad { member, count } => {
+        Verdict::Clean => no_fault(0, 0, 0, 0),
+        Verdict::Bad {
+            member,
+            count,
+            faults,
+        } => {
             let first = member as u32;
             let count = count as u32;
-            VerdictAnswer {
-                refusal: 0,
-                kind: 1,
-                first,
-                count,
-            }
+            bad_answer(first, count, faults)
         }
         Verdict::Unchecked { member, count } => {
             let first = member as u32;
             let count = count as u32;
-            VerdictAnswer {
-                refusal: 0,
-                kind: 3,
-                first,
-                count,
-            }
+            no_fault(0, 3, first, count)
         }
         Verdict::Torn { place } => {
             let first = place as u32;
-            VerdictAnswer {
-                refusal: 0,
-                kind: 2,
-                first,
-                count: 0,
-            }
+            no_fault(0, 2, first, 0)
         }
     }
 }
@@ -157,17 +194,12 @@ fn found_answer(verdict: Verdict) -> VerdictAnswer
 fn verdict_answer(scrubbed: Scrubbed) -> VerdictAnswer
     requires { ⌜ getD (scrubbedNumbers scrubbed) 3 0 < 4294967296 ⌝ }
     requires { ⌜ getD (scrubbedNumbers scrubbed) 4 0 < 4294967296 ⌝ }
-    ensures { λ r. ⌜ verdictFields r ≡ unflagged (scrubbedNumbers scrubbed) ⌝ }
+    ensures { λ r. ⌜ verdictFields r ≡ spread (unflagged (scrubbedNumbers scrubbed)) ⌝ }
 {
     match scrubbed {
         Scrubbed::Refused(number) => {
             let refusal = number as u32;
-            VerdictAnswer {
-                refusal,
-                kind: 0,
-                first: 0,
-                count: 0,
-            }
+            no_fault(refusal, 0, 0, 0)
         }
         Scrubbed::Found(verdict) => found_answer(verdict),
     }

@@ -16,7 +16,7 @@ ghost use Rattle.scan.specs.Scans.{
   pieceWork,
   finishNumbers,
 };
-ghost use Rattle.irumbolai.specs.Answers.{scanOf, unflagged, verdictFields};
+ghost use Rattle.irumbolai.specs.Answers.{scanOf, unflagged, verdictFields, spread};
 
 // The state that C hands in.
 fn scan_of(state: ScanState) -> Scan
@@ -98,7 +98,7 @@ pub extern "C" fn irumbolai_piece(
 // Ends a scan in the full scrub's verdict.
 #[no_mangle]
 pub extern "C" fn irumbolai_finish(state: ScanState, work: &[u8]) -> VerdictAnswer
-    ensures { λ r. ⌜ verdictFields r ≡ unflagged (finishNumbers (scanOf state) (now (work .entry))) ⌝ }
+    ensures { λ r. ⌜ verdictFields r ≡ spread (unflagged (finishNumbers (scanOf state) (now (work .entry)))) ⌝ }
 {
     let scan = scan_of(state);
     verdict_answer(scan::finish(scan, work))

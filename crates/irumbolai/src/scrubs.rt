@@ -7,7 +7,7 @@ ghost use mathlib.Core.Path.{_≡_};
 ghost use Rattle.layout.specs.Arrays.{arrayOf};
 ghost use Rattle.verdict.specs.Verdicts.{comparedNumbers, quickNumbers};
 ghost use Rattle.stripe.specs.Verdicts.{scrubNumbers};
-ghost use Rattle.irumbolai.specs.Answers.{unflagged, verdictFields, quickFields};
+ghost use Rattle.irumbolai.specs.Answers.{unflagged, verdictFields, spread, quickFields};
 
 // The full scrub of a stripe.
 #[no_mangle]
@@ -18,7 +18,7 @@ pub extern "C" fn irumbolai_scrub(
     stripe: u64,
     bytes: &[u8],
 ) -> VerdictAnswer
-    ensures { λ r. ⌜ verdictFields r ≡ unflagged (scrubNumbers (arrayOf members stripes volume) stripe (now (bytes .entry))) ⌝ }
+    ensures { λ r. ⌜ verdictFields r ≡ spread (unflagged (scrubNumbers (arrayOf members stripes volume) stripe (now (bytes .entry)))) ⌝ }
 {
     let array = layout::array_of(members, stripes, volume);
     verdict_answer(stripe::scrub(array, stripe, bytes))

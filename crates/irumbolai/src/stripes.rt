@@ -1,74 +1,92 @@
 // The jobs on blocks and stripes in memory, for C.
 use crate::CheckAnswer;
+use crate::FieldAnswer;
 use crate::ReadAnswer;
 use stripe::Reading;
 use tag::Checked;
+use tag::Fields;
 ghost use mathlib.Core.Path.{_≡_};
-ghost use Prim.Native.Nat.{_<_};
-ghost use lib.ListN.{length, getD};
+ghost use mathlib.Core.Bool.{cond};
+ghost use mathlib.Core.List.{_∷_};
+ghost use lib.Dec.{eqb};
+ghost use lib.ListN.{length, replicate};
 ghost use Rattle.layout.specs.Arrays.{arrayOf};
-ghost use Rattle.tag.specs.Tags.{checkedNumbers, checkNumbers};
+ghost use Rattle.tag.specs.Tags.{faults, kindOf, beside, sideBySide, checkedNumbers, checkNumbers};
 ghost use Rattle.stripe.specs.Jobs.{sealRefusal, sealBytes, readingNumbers, readNumbers, readOut, rebuildRefusal, rebuildBytes, updateRefusal, updateBytes};
-ghost use Rattle.irumbolai.specs.Answers.{unflagged, checkFields, readFields};
+ghost use Rattle.irumbolai.specs.Answers.{unflagged, fieldNumbers, checkFields, readFields};
+
+// A field for C.
+fn field_answer(found: u64, expected: u64) -> FieldAnswer
+    ensures { λ r. ⌜ fieldNumbers r ≡ beside found expected ⌝ }
+{
+    let fits: u32 = if found == expected { 1 } else { 0 };
+    FieldAnswer {
+        found,
+        expected,
+        fits,
+    }
+}
+
+// A check that tells no fields, for C.
+fn no_fields(refusal: u32, kind: u32) -> CheckAnswer
+    ensures { λ r. ⌜ checkFields r ≡ refusal ∷ kind ∷ replicate 9 0 ⌝ }
+{
+    CheckAnswer {
+        refusal,
+        kind,
+        guard: FieldAnswer {
+            found: 0,
+            expected: 0,
+            fits: 0,
+        },
+        application: FieldAnswer {
+            found: 0,
+            expected: 0,
+            fits: 0,
+        },
+        reference: FieldAnswer {
+            found: 0,
+            expected: 0,
+            fits: 0,
+        },
+    }
+}
+
+// The kind of a block whose fields are told: bad where any is at fault.
+fn told_kind(faults: u8) -> u32
+    ensures { λ r. ⌜ r ≡ cond (eqb faults 0) 0 1 ⌝ }
+{
+    if faults == 0 { 0 } else { 1 }
+}
+
+// Fields that are told, for C.
+fn told_answer(found: Fields, expected: Fields) -> CheckAnswer
+    ensures { λ r. ⌜ checkFields r ≡ 0 ∷ kindOf (faults found expected) ∷ sideBySide found expected ⌝ }
+{
+    let kind = told_kind(tag::faults(found, expected));
+    let guard = field_answer(found.guard, expected.guard);
+    let application = field_answer(found.application, expected.application);
+    let reference = field_answer(found.reference, expected.reference);
+    CheckAnswer {
+        refusal: 0,
+        kind,
+        guard,
+        application,
+        reference,
+    }
+}
 
 // An answer of `check` for C.
 fn check_answer(checked: Checked) -> CheckAnswer
-    requires { ⌜ getD (checkedNumbers checked) 3 0 < 4294967296 ⌝ }
-    requires { ⌜ getD (checkedNumbers checked) 4 0 < 4294967296 ⌝ }
     ensures { λ r. ⌜ checkFields r ≡ unflagged (checkedNumbers checked) ⌝ }
 {
     match checked {
         Checked::Refused(number) => {
             let refusal = number as u32;
-            CheckAnswer {
-                refusal,
-                field: 0,
-                found: 0,
-                expected: 0,
-            }
+            no_fields(refusal, 0)
         }
-        Checked::Good => CheckAnswer {
-            refusal: 0,
-            field: 0,
-            found: 0,
-            expected: 0,
-        },
-        Checked::Guard { found, expected } => {
-            let found = found as u32;
-            let expected = expected as u32;
-            CheckAnswer {
-                refusal: 0,
-                field: 1,
-                found,
-                expected,
-            }
-        }
-        Checked::Application { found, expected } => {
-            let found = found as u32;
-            let expected = expected as u32;
-            CheckAnswer {
-                refusal: 0,
-                field: 2,
-                found,
-                expected,
-            }
-        }
-        Checked::Reference { found, expected } => {
-            let found = found as u32;
-            let expected = expected as u32;
-            CheckAnswer {
-                refusal: 0,
-                field: 3,
-                found,
-                expected,
-            }
-        }
-        Checked::Unchecked => CheckAnswer {
-            refusal: 0,
-            field: 4,
-            found: 0,
-            expected: 0,
-        },
+        Checked::Unchecked => no_fields(0, 2),
+        Checked::Told { found, expected } => told_answer(found, expected),
     }
 }
 

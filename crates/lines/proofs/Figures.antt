@@ -6,7 +6,7 @@ use Prim.Native.Nat.{ℕ}
 use Rattle.layout.specs.Arrays.{arrayOf, arrayRefusal}
 use Rattle.layout.specs.declared.Array.{Array}
 use Rattle.tag.specs.Numbers.{numberOf}
-use Rattle.lines.specs.Text.{decimal, scrubWord, membersWord, stripesWord, cleanWord, badWord, uncheckedWord, tornWord, totalWord, cleanCount, badCount, uncheckedCount, tornCount, refusedWord}
+use Rattle.lines.specs.Text.{decimal, scrubWord, membersWord, stripesWord, cleanWord, badWord, letters, uncheckedWord, tornWord, totalWord, cleanCount, badCount, uncheckedCount, tornCount, refusedWord}
 use Rattle.lines.specs.Lines.{firstLine, stripeLine, totalLine, refusedLine}
 use Rattle.lines.specs.Headers.{formOf, formSize, arrayIn, headerRefusal}
 
@@ -22,22 +22,23 @@ unfolding firstLine scrubWord membersWord stripesWord decimal
 first-line-reads = refl
 
 -- "12 CLEAN"
-pub clean-line-reads : stripeLine 12 (0 ∷ 0 ∷ 0 ∷ []) ≡ 0x31 ∷ 0x32 ∷ 0x20 ∷ 0x43 ∷ 0x4C ∷ 0x45 ∷ 0x41 ∷ 0x4E ∷ 0x0A ∷ []
+pub clean-line-reads : stripeLine 12 (0 ∷ 0 ∷ 0 ∷ 0 ∷ []) ≡ 0x31 ∷ 0x32 ∷ 0x20 ∷ 0x43 ∷ 0x4C ∷ 0x45 ∷ 0x41 ∷ 0x4E ∷ 0x0A ∷ []
 unfolding stripeLine cleanWord decimal
 clean-line-reads = refl
 
--- "12 BAD 3 1": the member, then the count
-pub bad-line-reads : stripeLine 12 (1 ∷ 3 ∷ 1 ∷ []) ≡ 0x31 ∷ 0x32 ∷ 0x20 ∷ 0x42 ∷ 0x41 ∷ 0x44 ∷ 0x20 ∷ 0x33 ∷ 0x20 ∷ 0x31 ∷ 0x0A ∷ []
-unfolding stripeLine badWord decimal
-bad-line-reads = refl
+-- "12 BAD 3 1 G--", "12 BAD 3 1 -AR": the member, then the count, then the fields at fault
+pub bad-line-reads : (stripeLine 12 (1 ∷ 3 ∷ 1 ∷ 4 ∷ []) ≡ 0x31 ∷ 0x32 ∷ 0x20 ∷ 0x42 ∷ 0x41 ∷ 0x44 ∷ 0x20 ∷ 0x33 ∷ 0x20 ∷ 0x31 ∷ 0x20 ∷ 0x47 ∷ 0x2D ∷ 0x2D ∷ 0x0A ∷ [])
+    × (stripeLine 12 (1 ∷ 3 ∷ 1 ∷ 3 ∷ []) ≡ 0x31 ∷ 0x32 ∷ 0x20 ∷ 0x42 ∷ 0x41 ∷ 0x44 ∷ 0x20 ∷ 0x33 ∷ 0x20 ∷ 0x31 ∷ 0x20 ∷ 0x2D ∷ 0x41 ∷ 0x52 ∷ 0x0A ∷ [])
+unfolding stripeLine badWord letters decimal
+bad-line-reads = (refl, refl)
 
 -- "12 UNCHECKED 3 1"
-pub unchecked-line-reads : stripeLine 12 (3 ∷ 3 ∷ 1 ∷ []) ≡ 0x31 ∷ 0x32 ∷ 0x20 ∷ 0x55 ∷ 0x4E ∷ 0x43 ∷ 0x48 ∷ 0x45 ∷ 0x43 ∷ 0x4B ∷ 0x45 ∷ 0x44 ∷ 0x20 ∷ 0x33 ∷ 0x20 ∷ 0x31 ∷ 0x0A ∷ []
+pub unchecked-line-reads : stripeLine 12 (3 ∷ 3 ∷ 1 ∷ 0 ∷ []) ≡ 0x31 ∷ 0x32 ∷ 0x20 ∷ 0x55 ∷ 0x4E ∷ 0x43 ∷ 0x48 ∷ 0x45 ∷ 0x43 ∷ 0x4B ∷ 0x45 ∷ 0x44 ∷ 0x20 ∷ 0x33 ∷ 0x20 ∷ 0x31 ∷ 0x0A ∷ []
 unfolding stripeLine uncheckedWord decimal
 unchecked-line-reads = refl
 
 -- "12 TORN 509"
-pub torn-line-reads : stripeLine 12 (2 ∷ 509 ∷ 0 ∷ []) ≡ 0x31 ∷ 0x32 ∷ 0x20 ∷ 0x54 ∷ 0x4F ∷ 0x52 ∷ 0x4E ∷ 0x20 ∷ 0x35 ∷ 0x30 ∷ 0x39 ∷ 0x0A ∷ []
+pub torn-line-reads : stripeLine 12 (2 ∷ 509 ∷ 0 ∷ 0 ∷ []) ≡ 0x31 ∷ 0x32 ∷ 0x20 ∷ 0x54 ∷ 0x4F ∷ 0x52 ∷ 0x4E ∷ 0x20 ∷ 0x35 ∷ 0x30 ∷ 0x39 ∷ 0x0A ∷ []
 unfolding stripeLine tornWord decimal
 torn-line-reads = refl
 

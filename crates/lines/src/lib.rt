@@ -7,11 +7,12 @@ pub use header::header_refusal;
 pub use header::header_size;
 use layout::Array;
 use verdict::Verdict;
+ghost use mathlib.Core.Path.{_≡_};
 ghost use mathlib.Core.List.{_++_};
 ghost use Prim.Native.Nat.{_+_, _≤_};
 ghost use lib.ListN.{length};
 ghost use Rattle.verdict.specs.Verdicts.{verdictNumbers};
-ghost use Rattle.lines.specs.Text.{Written, decimal, blank, scrubWord};
+ghost use Rattle.lines.specs.Text.{Written, decimal, letter, letters, blank, lineEnd, scrubWord};
 ghost use Rattle.lines.specs.Lines.{fitting, firstLine, stripeLine, totalLine, refusedLine};
 
 // Bytes of room that any line has enough of; with less a line is not written, and 0 is answered.
@@ -57,6 +58,23 @@ fn word_and_numbers(out: &mut [u8], at: usize, word: &[u8], first: u64, second: 
     word_and_number(out, place, b" ", second)
 }
 
+// A letter where a field is at fault, a dash where it is not.
+fn letter(fault: u8, capital: u8) -> u8
+    ensures { λ r. ⌜ r ≡ letter fault capital ⌝ }
+{
+    if fault == 1 { capital } else { b'-' }
+}
+
+// The end of a bad stripe's line: the letters of the fields that are not those due.
+fn bad_ending(faults: u8) -> [u8; 5]
+    ensures { λ r. ⌜ r ≡ blank ++ letters faults ++ lineEnd ⌝ }
+{
+    let guard = letter(faults / 4 % 2, b'G');
+    let application = letter(faults / 2 % 2, b'A');
+    let reference = letter(faults % 2, b'R');
+    [b' ', guard, application, reference, b'\n']
+}
+
 // The eight bytes that every report begins with, unless its header is refused.
 fn scrub_word(out: &mut [u8]) -> usize
     requires { ⌜ 8 ≤ length (now out) ⌝ }
@@ -80,7 +98,7 @@ pub fn first_line(out: &mut [u8], array: Array) -> usize
     put(out, line, b"\n")
 }
 
-// The line of a stripe: its verdict, with the member and the count or the place.
+// The line of a stripe: its verdict, with the member, the count and the member's faults, or the place.
 pub fn stripe_line(out: &mut [u8], stripe: u64, verdict: Verdict) -> usize
     ensures { λ r. ⌜ Written (now (out .entry)) 0 (fitting (length (now (out .entry))) (stripeLine stripe (verdictNumbers verdict))) (now (out .exit)) r ⌝ }
 {
@@ -90,9 +108,14 @@ pub fn stripe_line(out: &mut [u8], stripe: u64, verdict: Verdict) -> usize
     let at = number(out, 0, stripe);
     match verdict {
         Verdict::Clean => put(out, at, b" CLEAN\n"),
-        Verdict::Bad { member, count } => {
+        Verdict::Bad {
+            member,
+            count,
+            faults,
+        } => {
             let line = word_and_numbers(out, at, b" BAD ", member as u64, count as u64);
-            put(out, line, b"\n")
+            let ending = bad_ending(faults);
+            put(out, line, &ending)
         }
         Verdict::Unchecked { member, count } => {
             let line = word_and_numbers(out, at, b" UNCHECKED ", member as u64, count as u64);

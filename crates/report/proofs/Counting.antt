@@ -18,9 +18,9 @@ module _ (t : Tally) where
   unfolding counted
   clean-counted = refl
 
-  pub bad-counted : (member count : ℕ) → counted t (verdictNumbers (Bad member count)) ≡ record { clean = t .clean; bad = t .bad + 1; unchecked = t .unchecked; torn = t .torn }
+  pub bad-counted : (member count faults : ℕ) → counted t (verdictNumbers (Bad member count faults)) ≡ record { clean = t .clean; bad = t .bad + 1; unchecked = t .unchecked; torn = t .torn }
   unfolding counted
-  bad-counted member count = refl
+  bad-counted member count faults = refl
 
   pub unchecked-counted : (member count : ℕ) → counted t (verdictNumbers (Unchecked member count)) ≡ record { clean = t .clean; bad = t .bad; unchecked = t .unchecked + 1; torn = t .torn }
   unfolding counted

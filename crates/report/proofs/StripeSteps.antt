@@ -58,7 +58,7 @@ module _ (used : ℕ) (r : Report) (w : List ℕ) where
   abbrev refusal-step : ℕ → Step
   refusal-step number = record { used = used; state = ended r; work = w; line = refusedLine number }
 
-  whole-without : (number : ℕ) → stripeWhole used r w (0 ∷ number ∷ 0 ∷ 0 ∷ 0 ∷ []) ≡ refusal-step number
+  whole-without : (number : ℕ) → stripeWhole used r w (0 ∷ number ∷ 0 ∷ 0 ∷ 0 ∷ 0 ∷ []) ≡ refusal-step number
   unfolding stripeWhole
   whole-without number = refl
 

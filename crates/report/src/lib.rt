@@ -110,6 +110,7 @@ fn count_one(clean: u64, bad: u64, unchecked: u64, torn: u64, verdict: Verdict) 
         Verdict::Bad {
             member: _,
             count: _,
+            faults: _,
         } => Counts {
             clean: clean,
             bad: bad + 1,

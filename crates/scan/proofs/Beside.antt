@@ -100,11 +100,11 @@ module _ (a : Array) (stripe : ℕ) where
   bytes-before (piece member bytes ∷ before) later c = (c .0, bytes-before before later (c .1))
   bytes-before (finish ∷ before) later c = bytes-before before later c
 
-  done-by : (number : ℕ) (v : List ℕ) (kind place count : ℕ) → answer number v ≡ 1 ∷ 0 ∷ kind ∷ place ∷ count ∷ []
+  done-by : (number : ℕ) (v : List ℕ) (kind place count faults : ℕ) → answer number v ≡ 1 ∷ 0 ∷ kind ∷ place ∷ count ∷ faults ∷ []
       → (number ≡ 0) × (getD v 0 0 ≡ kind)
-  done-by zero (k ∷ v) kind place count e = (refl, (cc))
-  done-by zero [] kind place count e = absurd (omega (arith, ap length e))
-  done-by (suc number) v kind place count e = absurd (omega (arith, ap (λ (l : List ℕ). getD l 0 0) e))
+  done-by zero (k ∷ v) kind place count faults e = (refl, (cc))
+  done-by zero [] kind place count faults e = absurd (omega (arith, ap length e))
+  done-by (suc number) v kind place count faults e = absurd (omega (arith, ap (λ (l : List ℕ). getD l 0 0) e))
 
   module _ (sound : Sound a) (calls : List Call) (xs : List (List ℕ))
       (right : xs ≡ answers (formatAt a .blockLength) (a .members) (scrubBlocks a stripe) (begun (a .members)) calls) where
@@ -114,7 +114,7 @@ module _ (a : Array) (stripe : ℕ) where
     unfolding answerTo
     done-with before f =
         done-by (finishNumber (formatAt a .blockLength) (a .members) (scrubBlocks a stripe) (historyOf a stripe before)) (scrubBlocks a stripe (historyOf a stripe before))
-        (f .kind) (f .place) (f .count)
+        (f .kind) (f .place) (f .count) (f .faults)
         (sym (answer-at (begun (a .members)) before (f .later))
         ∙ sym (ap (λ (l : List (List ℕ)). getD l (length before) [])
         (right ∙ ap (answers (formatAt a .blockLength) (a .members) (scrubBlocks a stripe) (begun (a .members))) (f .there))) ∙ f .answer-is)

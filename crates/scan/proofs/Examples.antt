@@ -49,6 +49,6 @@ module _ (scrub : List (List ℕ) → List ℕ) where
 
 -- too early, with the scrub of the product
 early-finish : (a : Array) (stripe : ℕ)
-    → answers 520 3 (scrubBlocks a stripe) (begun 3) (piece 0 (9 ∷ []) ∷ finish ∷ []) ≡ (0 ∷ []) ∷ (0 ∷ 8 ∷ 0 ∷ 0 ∷ 0 ∷ []) ∷ []
+    → answers 520 3 (scrubBlocks a stripe) (begun 3) (piece 0 (9 ∷ []) ∷ finish ∷ []) ≡ (0 ∷ []) ∷ (0 ∷ 8 ∷ 0 ∷ 0 ∷ 0 ∷ 0 ∷ []) ∷ []
 unfolding answerTo kept
 early-finish a stripe = ap (λ (x : List ℕ). (0 ∷ []) ∷ x ∷ []) (refused-verdict a stripe 7 (summaryOf (formatAt a) ((9 ∷ []) ∷ [] ∷ [] ∷ [])))

@@ -18,7 +18,7 @@ use Rattle.tag.proofs.Within.{tag-inside}
 use Rattle.scan.proofs.Joins.{getD-map-in}
 use Rattle.tag.specs.declared.Fields.{Fields}
 use Rattle.tag.proofs.Expected.{due-somewhere}
-use Rattle.verdict.specs.Verdicts.{nonzero, judged}
+use Rattle.verdict.specs.Verdicts.{nonzero, saysClean, judged}
 use Rattle.stripe.specs.Tables.{table, span}
 use Rattle.tag.specs.Blocks.{formatAt}
 use Rattle.stripe.specs.Formats.{Summary}
@@ -73,10 +73,10 @@ module _ (s : Scan) where
         ap (λ (x : List ℕ). 1 ∷ 0 ∷ x) (e ∙ ap (λ (x : List ℕ). judged x (nonzero w)) (l ∙ sym (standing-members-held w held)))
         ∙ sym (ap (λ (k : ℕ). answer k (verdict (s .array) (s .stripe) (heldSummary (formatAt (s .array)) (s .array .members) (s .register) (s .tag) w))) none)
 
-    pub finish-refused : finishRefusal s (length w) ≢ 0 → finishNumbers s w ≡ 0 ∷ finishRefusal s (length w) ∷ 0 ∷ 0 ∷ 0 ∷ []
+    pub finish-refused : finishRefusal s (length w) ≢ 0 → finishNumbers s w ≡ 0 ∷ finishRefusal s (length w) ∷ saysClean
     unfolding finishNumbers
     finish-refused = go (finishRefusal s (length w)) (heldSummary (formatAt (s .array)) (s .array .members) (s .register) (s .tag) w)
       where
-        go : (number : ℕ) (x : Summary) → number ≢ 0 → answer number (verdict (s .array) (s .stripe) x) ≡ 0 ∷ number ∷ 0 ∷ 0 ∷ 0 ∷ []
+        go : (number : ℕ) (x : Summary) → number ≢ 0 → answer number (verdict (s .array) (s .stripe) x) ≡ 0 ∷ number ∷ saysClean
         go zero x h = absurd (h refl)
         go (suc number) x h = refused-verdict (s .array) (s .stripe) number x

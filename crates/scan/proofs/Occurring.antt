@@ -28,7 +28,7 @@ some-verdict : (members : List ℕ) (torn : List Bool) → SomeVerdict (judged m
 some-verdict members torn = by-case (judged-case members torn)
   where
     by-case : {l : List ℕ} → Judged members torn l → SomeVerdict l
-    by-case (of-bad p) = record { verdict = Bad _ _; same = refl }
+    by-case (of-bad p) = record { verdict = Bad _ _ _; same = refl }
     by-case (of-unchecked p q) = record { verdict = Unchecked _ _; same = refl }
     by-case (of-torn p q r) = record { verdict = Torn _; same = refl }
     by-case (of-clean p q r) = record { verdict = Clean; same = refl }

@@ -35,7 +35,8 @@ pub record FoundAllGood (calls before : List Call) (xs : List (List ℕ)) : Type
   pub kind : ℕ
   pub place : ℕ
   pub count : ℕ
-  pub answer-is : getD xs (length before) [] ≡ 1 ∷ 0 ∷ kind ∷ place ∷ count ∷ []
+  pub faults : ℕ
+  pub answer-is : getD xs (length before) [] ≡ 1 ∷ 0 ∷ kind ∷ place ∷ count ∷ faults ∷ []
   pub not-bad : kind ≢ 1
   pub not-unchecked : kind ≢ 3
 

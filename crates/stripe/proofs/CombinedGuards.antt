@@ -16,7 +16,7 @@ use Rattle.format.proofs.Combined.{guard-combination}
 use Rattle.format.proofs.Laws.{combines, blank-none, spare-none}
 use Rattle.tag.specs.Blocks.{formatAt, dataOf}
 use Rattle.tag.proofs.Tagged.{length-data}
-use Rattle.verdict.specs.Verdicts.{combinedGuards, quickNumbers}
+use Rattle.verdict.specs.Verdicts.{saysClean, combinedGuards, quickNumbers}
 use Rattle.verdict.proofs.Quick.{sound-quick, quick-fits}
 use Rattle.stripe.specs.Tables.{table}
 use Rattle.stripe.specs.Stripes.{blockOf, memberData}
@@ -50,7 +50,7 @@ storedGuards a bytes = table (a .members) (λ m. storedGuard (formatAt a) (block
 
 module _ (a : Array) (stripe : ℕ) (bytes : List ℕ) (is-clean : scrubNumbers a stripe bytes ≡ clean) where
   taken : scrubRefusal a stripe (length bytes) ≡ 0
-  taken = scrub-taken a stripe bytes (0 ∷ 0 ∷ 0 ∷ 0 ∷ []) is-clean
+  taken = scrub-taken a stripe bytes (0 ∷ saysClean) is-clean
 
   -- of good members they are the guards of the data
   guards-of-data : storedGuards a bytes ≡ map (guard (formatAt a)) (memberData (formatAt a) (a .members) bytes)

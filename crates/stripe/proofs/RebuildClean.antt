@@ -11,6 +11,7 @@ use Rattle.layout.specs.declared.Array.{Array}
 use Rattle.layout.proofs.Ranges.{place-sound, sound-stripe}
 use Rattle.tag.specs.Blocks.{formatAt, dataOf}
 use Rattle.tag.specs.Tags.{good}
+use Rattle.verdict.specs.Verdicts.{saysTorn}
 use Rattle.stripe.specs.Stripes.{blockOf, Parity}
 use Rattle.stripe.specs.Accepted.{Sources}
 use Rattle.stripe.specs.Jobs.{rebuilt, rebuildRefusal, rebuildBytes}
@@ -50,11 +51,11 @@ rebuild-clean a stripe member bytes done small =
     ∙ scrub-clean a stripe left taken .1 (all-good a stripe member bytes from small, parity-made a stripe member bytes from)
 
 -- a torn stripe too: a rebuild of any member is done, and hides that it was torn
-pub torn-rebuilds-clean : (a : Array) (stripe member place : ℕ) (bytes : List ℕ) → scrubNumbers a stripe bytes ≡ 1 ∷ 0 ∷ 2 ∷ place ∷ 0 ∷ []
+pub torn-rebuilds-clean : (a : Array) (stripe member place : ℕ) (bytes : List ℕ) → scrubNumbers a stripe bytes ≡ 1 ∷ 0 ∷ saysTorn place
     → member < a .members → a .volume < 256
     → (rebuildRefusal a stripe member bytes ≡ 0) × (scrubNumbers a stripe (rebuildBytes a stripe member bytes) ≡ clean)
 torn-rebuilds-clean a stripe member place bytes torn here small =
-    let taken = scrub-taken a stripe bytes (0 ∷ 2 ∷ place ∷ 0 ∷ []) torn in
+    let taken = scrub-taken a stripe bytes (0 ∷ saysTorn place) torn in
     let every = scrub-torn a stripe bytes taken place .0 torn .0 in
     let done = rebuild-others a stripe member bytes (member-place a stripe (length bytes) member taken here) (scrub-sound a stripe (length bytes) taken .1) true (good-others a stripe member bytes (λ m h ne. every m h)) in
     (done, rebuild-clean a stripe member bytes done small)

@@ -23,7 +23,7 @@ use Rattle.layout.proofs.Ranges.{stripe-sound, sound-place}
 use Rattle.tag.specs.Blocks.{formatAt, dataOf, tagOf}
 use Rattle.tag.specs.Tags.{found, due, standing, standingAt, good, bad, unchecked}
 use Rattle.tag.proofs.Cases.{stands-few}
-use Rattle.verdict.specs.Verdicts.{count, nonzero, judged}
+use Rattle.verdict.specs.Verdicts.{count, nonzero, saysClean, saysBad, saysTorn, saysUnchecked, judged}
 use Rattle.verdict.specs.Flags.{FirstNonzero}
 use Rattle.verdict.proofs.Verdicts.{getD-map, judged-refused, none-amiss}
 use Rattle.stripe.specs.Tables.{table}
@@ -64,25 +64,26 @@ module _ (a : Array) (s : ℕ) (blocks : List (List ℕ)) (all-there : length bl
   said : (numbers : List ℕ) → (scrubBlocks a s blocks ≡ numbers) ↔ (judgement standsAt (a .members) together ≡ numbers)
   said numbers = (λ e. sym scrub-judgement ∙ e, λ e. scrub-judgement ∙ e)
 
-  pub blocks-clean : (scrubBlocks a s blocks ≡ 0 ∷ 0 ∷ 0 ∷ [])
+  pub blocks-clean : (scrubBlocks a s blocks ≡ saysClean)
       ↔ (((m : ℕ) → m < a .members → good a s m (getD blocks m []) ≡ true) × (together ≡ replicate (formatAt a .dataLength) 0))
   blocks-clean =
-      Iff·trans (said (0 ∷ 0 ∷ 0 ∷ []))
+      Iff·trans (said saysClean)
       (clean-exactly standsAt (a .members) together (λ m. stands-few a s m (getD blocks m [])) (formatAt a .dataLength) (length-combination (formatAt a .dataLength) (map (dataOf (formatAt a)) blocks)))
 
-  pub blocks-bad : (member bads : ℕ) → (scrubBlocks a s blocks ≡ 1 ∷ member ∷ bads ∷ [])
-      ↔ (FirstMember (λ m. bad a s m (getD blocks m [])) (a .members) member × (bads ≡ count (table (a .members) (λ m. bad a s m (getD blocks m [])))))
-  blocks-bad member bads = Iff·trans (said (1 ∷ member ∷ bads ∷ [])) (bad-exactly standsAt (a .members) together member bads)
+  pub blocks-bad : (member bads faults : ℕ) → (scrubBlocks a s blocks ≡ saysBad member bads faults)
+      ↔ (FirstMember (λ m. bad a s m (getD blocks m [])) (a .members) member × (bads ≡ count (table (a .members) (λ m. bad a s m (getD blocks m []))))
+      × (faults ≡ standingAt a s member (getD blocks member [])))
+  blocks-bad member bads faults = Iff·trans (said (saysBad member bads faults)) (bad-exactly standsAt (a .members) together member bads faults)
 
-  pub blocks-unchecked : (member many : ℕ) → (scrubBlocks a s blocks ≡ 3 ∷ member ∷ many ∷ [])
+  pub blocks-unchecked : (member many : ℕ) → (scrubBlocks a s blocks ≡ saysUnchecked member many)
       ↔ (((m : ℕ) → m < a .members → bad a s m (getD blocks m []) ≡ false) × FirstMember (λ m. unchecked a s m (getD blocks m [])) (a .members) member
       × (many ≡ count (table (a .members) (λ m. unchecked a s m (getD blocks m [])))))
-  blocks-unchecked member many = Iff·trans (said (3 ∷ member ∷ many ∷ [])) (unchecked-exactly standsAt (a .members) together member many)
+  blocks-unchecked member many = Iff·trans (said (saysUnchecked member many)) (unchecked-exactly standsAt (a .members) together member many)
 
-  pub blocks-torn : (place : ℕ) → (scrubBlocks a s blocks ≡ 2 ∷ place ∷ 0 ∷ [])
+  pub blocks-torn : (place : ℕ) → (scrubBlocks a s blocks ≡ saysTorn place)
       ↔ (((m : ℕ) → m < a .members → good a s m (getD blocks m []) ≡ true) × FirstNonzero together place)
   blocks-torn place =
-      Iff·trans (said (2 ∷ place ∷ 0 ∷ [])) (torn-exactly standsAt (a .members) together (λ m. stands-few a s m (getD blocks m [])) place)
+      Iff·trans (said (saysTorn place)) (torn-exactly standsAt (a .members) together (λ m. stands-few a s m (getD blocks m [])) place)
 
   -- a verdict that is neither bad nor unchecked: every member is good
   pub blocks-good : getD (scrubBlocks a s blocks) 0 0 ≢ 1 → getD (scrubBlocks a s blocks) 0 0 ≢ 3 → (m : ℕ) → m < a .members → good a s m (getD blocks m []) ≡ true
@@ -122,7 +123,7 @@ module _ (a : Array) (s : ℕ) where
   length-refused n e l = rw (e, ne-eqb n (stripeLength a) l)
 
   pub scrub-refused : (bytes : List ℕ) → scrubRefusal a s (length bytes) ≢ 0
-      → scrubNumbers a s bytes ≡ 0 ∷ scrubRefusal a s (length bytes) ∷ 0 ∷ 0 ∷ 0 ∷ []
+      → scrubNumbers a s bytes ≡ 0 ∷ scrubRefusal a s (length bytes) ∷ saysClean
   unfolding scrubNumbers
   scrub-refused bytes h =
       let stored = summaryOf (formatAt a) (table (a .members) (blockOf (formatAt a) bytes)) in
@@ -177,25 +178,26 @@ module _ (a : Array) (s : ℕ) (bytes : List ℕ) (sound : scrubRefusal a s (len
       rest : (l k : List ℕ) → 1 ∷ 0 ∷ l ≡ 1 ∷ 0 ∷ k → l ≡ k
       rest l k e = cc
 
-  few : (m : ℕ) → storedAs a s bytes m ≤ 2
+  few : (m : ℕ) → storedAs a s bytes m ≤ 8
   few m = stands-few a s m (blockOf (formatAt a) bytes m)
 
-  pub scrub-clean : (scrubNumbers a s bytes ≡ 1 ∷ 0 ∷ 0 ∷ 0 ∷ 0 ∷ [])
+  pub scrub-clean : (scrubNumbers a s bytes ≡ 1 ∷ 0 ∷ saysClean)
       ↔ (((m : ℕ) → m < a .members → good a s m (blockOf (formatAt a) bytes m) ≡ true) × (combination (formatAt a .dataLength) (memberData (formatAt a) (a .members) bytes) ≡ replicate (formatAt a .dataLength) 0))
   scrub-clean =
-      Iff·trans (answered (0 ∷ 0 ∷ 0 ∷ []))
+      Iff·trans (answered saysClean)
       (clean-exactly (storedAs a s bytes) (a .members) (storedTogether a s bytes) few (formatAt a .dataLength) (length-combination (formatAt a .dataLength) (memberData (formatAt a) (a .members) bytes)))
 
-  pub scrub-bad : (member bads : ℕ) → (scrubNumbers a s bytes ≡ 1 ∷ 0 ∷ 1 ∷ member ∷ bads ∷ [])
-      ↔ (FirstMember (λ m. bad a s m (blockOf (formatAt a) bytes m)) (a .members) member × (bads ≡ count (table (a .members) (λ m. bad a s m (blockOf (formatAt a) bytes m)))))
-  scrub-bad member bads = Iff·trans (answered (1 ∷ member ∷ bads ∷ [])) (bad-exactly (storedAs a s bytes) (a .members) (storedTogether a s bytes) member bads)
+  pub scrub-bad : (member bads faults : ℕ) → (scrubNumbers a s bytes ≡ 1 ∷ 0 ∷ saysBad member bads faults)
+      ↔ (FirstMember (λ m. bad a s m (blockOf (formatAt a) bytes m)) (a .members) member × (bads ≡ count (table (a .members) (λ m. bad a s m (blockOf (formatAt a) bytes m))))
+      × (faults ≡ standingAt a s member (blockOf (formatAt a) bytes member)))
+  scrub-bad member bads faults = Iff·trans (answered (saysBad member bads faults)) (bad-exactly (storedAs a s bytes) (a .members) (storedTogether a s bytes) member bads faults)
 
-  pub scrub-unchecked : (member many : ℕ) → (scrubNumbers a s bytes ≡ 1 ∷ 0 ∷ 3 ∷ member ∷ many ∷ [])
+  pub scrub-unchecked : (member many : ℕ) → (scrubNumbers a s bytes ≡ 1 ∷ 0 ∷ saysUnchecked member many)
       ↔ (((m : ℕ) → m < a .members → bad a s m (blockOf (formatAt a) bytes m) ≡ false) × FirstMember (λ m. unchecked a s m (blockOf (formatAt a) bytes m)) (a .members) member
       × (many ≡ count (table (a .members) (λ m. unchecked a s m (blockOf (formatAt a) bytes m)))))
-  scrub-unchecked member many = Iff·trans (answered (3 ∷ member ∷ many ∷ [])) (unchecked-exactly (storedAs a s bytes) (a .members) (storedTogether a s bytes) member many)
+  scrub-unchecked member many = Iff·trans (answered (saysUnchecked member many)) (unchecked-exactly (storedAs a s bytes) (a .members) (storedTogether a s bytes) member many)
 
-  pub scrub-torn : (place : ℕ) → (scrubNumbers a s bytes ≡ 1 ∷ 0 ∷ 2 ∷ place ∷ 0 ∷ [])
+  pub scrub-torn : (place : ℕ) → (scrubNumbers a s bytes ≡ 1 ∷ 0 ∷ saysTorn place)
       ↔ (((m : ℕ) → m < a .members → good a s m (blockOf (formatAt a) bytes m) ≡ true) × FirstNonzero (combination (formatAt a .dataLength) (memberData (formatAt a) (a .members) bytes)) place)
   scrub-torn place =
-      Iff·trans (answered (2 ∷ place ∷ 0 ∷ [])) (torn-exactly (storedAs a s bytes) (a .members) (storedTogether a s bytes) few place)
+      Iff·trans (answered (saysTorn place)) (torn-exactly (storedAs a s bytes) (a .members) (storedTogether a s bytes) few place)

@@ -16,7 +16,8 @@ use Rattle.layout.specs.declared.Array.{Array}
 use Rattle.layout.proofs.Bijection.{place-refusal}
 use Rattle.format.specs.Formats.{Format}
 use Rattle.tag.specs.Blocks.{formatAt, dataOf}
-use Rattle.tag.specs.Tags.{standingAt, unchecked}
+use Rattle.tag.specs.Tags.{standingAt, isBad, unchecked, kindOf}
+use Rattle.tag.proofs.Cases.{bad-range}
 use Rattle.stripe.specs.Tables.{span}
 use Rattle.stripe.specs.Stripes.{stripeLength, blockOf, othersGood, othersData}
 use Rattle.stripe.specs.Jobs.{unlessRefused, storedGood, storedBad, serveRefusal, servedData, readRefusal, readNumbers, readOut, Reads}
@@ -59,7 +60,7 @@ module _ (a : Array) (stripe member : ℕ) (bytes out : List ℕ) where
   -- the answer of a read there, and what it leaves in the buffer
   abbrev pub Serves : List ℕ → List ℕ → Type 0
   Serves numbers left =
-      (numbers ≡ answer (serveRefusal a stripe member bytes (length out)) (standingAt a stripe member (blockOf (formatAt a) bytes member) ∷ []))
+      (numbers ≡ answer (serveRefusal a stripe member bytes (length out)) (kindOf (standingAt a stripe member (blockOf (formatAt a) bytes member)) ∷ []))
       × (left ≡ unlessRefused (serveRefusal a stripe member bytes (length out)) (servedData a stripe member bytes) out)
 
   serve-refused : (n : ℕ) → serveRefusal a stripe member bytes (length out) ≡ suc n → Serves (0 ∷ suc n ∷ 0 ∷ []) out
@@ -76,22 +77,27 @@ module _ (a : Array) (stripe member : ℕ) (bytes out : List ℕ) where
 
     module _ (room : length out ≡ (formatAt a .dataLength)) where
       -- a block that is not bad is served as it stands
-      pub serve-stored : (left : List ℕ) (how : ℕ) → standingAt a stripe member (blockOf (formatAt a) bytes member) ≡ how → how ≢ 1
-          → left ≡ dataOf (formatAt a) (blockOf (formatAt a) bytes member) → Serves (1 ∷ 0 ∷ how ∷ []) left
+      pub serve-stored : (left : List ℕ) (how : ℕ) → standingAt a stripe member (blockOf (formatAt a) bytes member) ≡ how → isBad how ≡ false
+          → left ≡ dataOf (formatAt a) (blockOf (formatAt a) bytes member) → Serves (1 ∷ 0 ∷ kindOf how ∷ []) left
       unfolding serveRefusal servedData
-      serve-stored left how stands ne e =
+      serve-stored left how stands fine e =
           let l = eq-eqb (length bytes) (stripeLength a) long in
           let r = eq-eqb (length out) (formatAt a .dataLength) room in
-          let other = ne-eqb how 1 ne in
-          (rw (l, r, stands, other), rw (l, r, stands, other) e)
+          (rw (l, r, stands, fine), rw (l, r, stands, fine) e)
 
-      module _ (bad : standingAt a stripe member (blockOf (formatAt a) bytes member) ≡ 1) where
+      module _ (bad : storedBad a stripe member bytes ≡ true) where
+        kind-one : kindOf (standingAt a stripe member (blockOf (formatAt a) bytes member)) ≡ 1
+        kind-one =
+            let how = standingAt a stripe member (blockOf (formatAt a) bytes member) in
+            let range = bad-range how bad in
+            rw (ne-eqb how 0 (λ z. omega (arith, z, range .0)), ne-eqb how 8 (λ z. omega (arith, z, range .1)))
+
         pub serve-rebuilt : (left : List ℕ) → othersGood a stripe member bytes ≡ true → left ≡ othersData (formatAt a) (a .members) member bytes → Serves (1 ∷ 0 ∷ 1 ∷ []) left
         unfolding serveRefusal servedData
         serve-rebuilt left good e =
             let l = eq-eqb (length bytes) (stripeLength a) long in
             let r = eq-eqb (length out) (formatAt a .dataLength) room in
-            (rw (l, r, bad, good), rw (l, r, bad, good) e)
+            (rw (l, r, bad, good, kind-one), rw (l, r, bad, good) e)
 
         pub serve-damaged : othersGood a stripe member bytes ≡ false → Serves (0 ∷ 9 ∷ 0 ∷ []) out
         unfolding serveRefusal
@@ -154,7 +160,7 @@ module _ (a : Array) (block : ℕ) (bytes out : List ℕ) where
     read-stored good =
         let s = stripeOf a block in
         let m = memberOf a block in
-        read-served s m (1 ∷ 0 ∷ 0 ∷ []) (dataOf (formatAt a) (blockOf (formatAt a) bytes m)) own (serve-stored a s m bytes out long room (dataOf (formatAt a) (blockOf (formatAt a) bytes m)) 0 (eqb-true _ 0 good) (λ e. omega arith) refl)
+        read-served s m (1 ∷ 0 ∷ 0 ∷ []) (dataOf (formatAt a) (blockOf (formatAt a) bytes m)) own (serve-stored a s m bytes out long room (dataOf (formatAt a) (blockOf (formatAt a) bytes m)) 0 (eqb-true _ 0 good) refl refl)
 
     -- and so is an unchecked one, which the answer tells
     pub read-unchecked : unchecked a (stripeOf a block) (memberOf a block) (blockOf (formatAt a) bytes (memberOf a block)) ≡ true
@@ -162,7 +168,7 @@ module _ (a : Array) (block : ℕ) (bytes out : List ℕ) where
     read-unchecked marked =
         let s = stripeOf a block in
         let m = memberOf a block in
-        read-served s m (1 ∷ 0 ∷ 2 ∷ []) (dataOf (formatAt a) (blockOf (formatAt a) bytes m)) own (serve-stored a s m bytes out long room (dataOf (formatAt a) (blockOf (formatAt a) bytes m)) 2 (eqb-true _ 2 marked) (λ e. omega arith) refl)
+        read-served s m (1 ∷ 0 ∷ 2 ∷ []) (dataOf (formatAt a) (blockOf (formatAt a) bytes m)) own (serve-stored a s m bytes out long room (dataOf (formatAt a) (blockOf (formatAt a) bytes m)) 8 (eqb-true _ 8 marked) refl refl)
 
     module _ (bad : storedBad a (stripeOf a block) (memberOf a block) bytes ≡ true) where
       pub read-rebuilt : ((m : ℕ) → m < a .members → m ≢ memberOf a block → storedGood a (stripeOf a block) m bytes ≡ true)
@@ -171,10 +177,10 @@ module _ (a : Array) (block : ℕ) (bytes out : List ℕ) where
           let s = stripeOf a block in
           let m = memberOf a block in
           let made = othersData (formatAt a) (a .members) m bytes in
-          read-served s m (1 ∷ 0 ∷ 1 ∷ []) made own (serve-rebuilt a s m bytes out long room (eqb-true _ 1 bad) made (good-others a s m bytes others) refl)
+          read-served s m (1 ∷ 0 ∷ 1 ∷ []) made own (serve-rebuilt a s m bytes out long room bad made (good-others a s m bytes others) refl)
 
       pub read-damaged : (k : ℕ) → k < a .members → k ≢ memberOf a block → storedGood a (stripeOf a block) k bytes ≡ false → Reads a block bytes out (0 ∷ 9 ∷ 0 ∷ []) out
       read-damaged k h other too =
           let s = stripeOf a block in
           let m = memberOf a block in
-          read-served s m (0 ∷ 9 ∷ 0 ∷ []) out own (serve-damaged a s m bytes out long room (eqb-true _ 1 bad) (bad-other a s m bytes k h other too))
+          read-served s m (0 ∷ 9 ∷ 0 ∷ []) out own (serve-damaged a s m bytes out long room bad (bad-other a s m bytes k h other too))

@@ -31,7 +31,7 @@ use Rattle.tag.specs.Blocks.{formatAt, dataOf}
 use Rattle.tag.specs.Tags.{good, tagged}
 use Rattle.tag.proofs.Numbers.{bytes-joined}
 use Rattle.tag.proofs.Tagged.{length-tagged, data-of-tagged, tagged-good, bytes-tagged}
-use Rattle.verdict.specs.Verdicts.{combinedGuards, quickNumbers}
+use Rattle.verdict.specs.Verdicts.{saysTorn, combinedGuards, quickNumbers}
 use Rattle.verdict.specs.Flags.{FirstNonzero}
 use Rattle.verdict.proofs.Quick.{sound-quick, quick-fits, quick-differs}
 use Rattle.stripe.specs.Tables.{joined}
@@ -115,7 +115,7 @@ module _ (size zeros x : ℕ) (rest : List ℕ) (data-size : size ≡ (formatAt 
         zero-below = λ k h. List·getD-append (replicate zeros 0) (x ∷ rest) 0 k (omega (arith, length-replicate {A = ℕ} zeros 0)) ∙ getD-replicate zeros k 0 0 h;
       }
 
-  pub torn-there : scrubBlocks bench 0 (tornBlocks size zeros (x ∷ rest)) ≡ 2 ∷ zeros ∷ 0 ∷ []
+  pub torn-there : scrubBlocks bench 0 (tornBlocks size zeros (x ∷ rest)) ≡ saysTorn zeros
   torn-there =
       blocks-torn bench 0 (tornBlocks size zeros (x ∷ rest)) refl zeros .1
       (all-good, subst (λ (l : List ℕ). FirstNonzero l zeros) (sym combined) first-there)
@@ -211,7 +211,7 @@ size-is = refl
 some-end : _≢_ {A = ℕ} 1 0
 some-end e = omega arith
 
-pub torn-unseen : (scrubBlocks bench 0 (tornBlocks 512 509 (0x01 ∷ 0x8B ∷ 0xB7 ∷ [])) ≡ 2 ∷ 509 ∷ 0 ∷ [])
+pub torn-unseen : (scrubBlocks bench 0 (tornBlocks 512 509 (0x01 ∷ 0x8B ∷ 0xB7 ∷ [])) ≡ saysTorn 509)
     × (quickNumbers (map (storedGuard (formatAt bench)) (tornBlocks 512 509 (0x01 ∷ 0x8B ∷ 0xB7 ∷ []))) ≡ 1 ∷ 0 ∷ 0 ∷ 0 ∷ [])
 torn-unseen =
     let bytes = few-bytes 0x01 0x8B 0xB7 (lit< tt) (lit< tt) (lit< tt) in (
@@ -219,7 +219,7 @@ torn-unseen =
       unseen 512 509 0x01 (0x8B ∷ 0xB7 ∷ []) size-is refl some-end bytes guard-unseen,
     )
 
-pub torn-seen : (scrubBlocks bench 0 (tornBlocks 512 509 (0x01 ∷ 0x8B ∷ 0xB6 ∷ [])) ≡ 2 ∷ 509 ∷ 0 ∷ [])
+pub torn-seen : (scrubBlocks bench 0 (tornBlocks 512 509 (0x01 ∷ 0x8B ∷ 0xB6 ∷ [])) ≡ saysTorn 509)
     × (quickNumbers (map (storedGuard (formatAt bench)) (tornBlocks 512 509 (0x01 ∷ 0x8B ∷ 0xB6 ∷ []))) ≡ 1 ∷ 0 ∷ 1 ∷ 0x8BB7 ∷ [])
 torn-seen =
     let bytes = few-bytes 0x01 0x8B 0xB6 (lit< tt) (lit< tt) (lit< tt) in (

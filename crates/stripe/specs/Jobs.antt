@@ -14,7 +14,7 @@ use Rattle.layout.specs.Places.{parityMember, stripeOf, memberOf, indexAt, isPa
 use Rattle.layout.specs.declared.Array.{Array}
 use Rattle.format.specs.Formats.{Format}
 use Rattle.tag.specs.Blocks.{formatAt, dataOf}
-use Rattle.tag.specs.Tags.{standingAt, good, bad, tagged}
+use Rattle.tag.specs.Tags.{standingAt, good, bad, kindOf, tagged}
 use Rattle.stripe.specs.Tables.{table, joined, part}
 use Rattle.stripe.specs.Stripes.{stripeLength, blockOf, othersGood, othersData}
 use Rattle.stripe.specs.declared.Reading.{Reading}
@@ -71,7 +71,7 @@ readRefusal a block bytes outBytes = after (blockRefusal a block) (serveRefusal 
 -- in numbers: 0 stored, 1 rebuilt, 2 unchecked, as the block stands good, bad or unchecked
 unfoldable pub readNumbers : Array → ℕ → List ℕ → ℕ → List ℕ
 readNumbers a block bytes outBytes =
-    answer (readRefusal a block bytes outBytes) (standingAt a (stripeOf a block) (memberOf a block) (blockOf (formatAt a) bytes (memberOf a block)) ∷ [])
+    answer (readRefusal a block bytes outBytes) (kindOf (standingAt a (stripeOf a block) (memberOf a block) (blockOf (formatAt a) bytes (memberOf a block))) ∷ [])
 
 abbrev pub readingNumbers : Reading → List ℕ
 readingNumbers (Refused number) = 0 ∷ number ∷ 0 ∷ []

@@ -11,7 +11,7 @@ use Rattle.layout.specs.declared.Array.{Array}
 use Rattle.format.specs.Formats.{Format}
 use Rattle.tag.specs.Blocks.{formatAt, tagOf}
 use Rattle.tag.specs.Tags.{found, due, standing}
-use Rattle.verdict.specs.Verdicts.{nonzero, judged}
+use Rattle.verdict.specs.Verdicts.{nonzero, saysClean, judged}
 use Rattle.stripe.specs.Tables.{table}
 use Rattle.stripe.specs.Stripes.{stripeLength, blockOf}
 use Rattle.stripe.specs.Formats.{Summary, summaryOf}
@@ -43,7 +43,7 @@ scrubNumbers a stripe bytes =
 
 -- the answer that a stripe is clean: done, no refusal, no member bad or unchecked, no torn place
 abbrev pub clean : List ℕ
-clean = 1 ∷ 0 ∷ 0 ∷ 0 ∷ 0 ∷ []
+clean = 1 ∷ 0 ∷ saysClean
 
 -- f holds of m, a member of n, and of none below it
 pub record FirstMember (f : ℕ → Bool) (n m : ℕ) : Type 0 where

@@ -6,7 +6,7 @@ ghost use mathlib.Core.List.{[], _∷_};
 ghost use Rattle.layout.specs.Answers.{answer};
 ghost use Rattle.layout.specs.Places.{ownerRefusal};
 ghost use Rattle.tag.specs.Blocks.{formatAt};
-ghost use Rattle.tag.specs.Tags.{standingAt};
+ghost use Rattle.tag.specs.Tags.{standingAt, kindOf};
 ghost use Rattle.stripe.specs.Stripes.{blockOf};
 ghost use Rattle.stripe.specs.Jobs.{serveRefusal, servedData, unlessRefused, readNumbers, readingNumbers, readOut};
 use crate::Reading;
@@ -18,13 +18,12 @@ use copy::put;
 use format::METHOD;
 use layout::Array;
 use layout::Placed;
-use tag::BAD;
 use tag::UNCHECKED;
 
 // The data of the block at a place: its own unless it is bad, else those of the others where they are good.
 fn serve(array: Array, stripe: u64, member: usize, bytes: &[u8], out: &mut [u8]) -> Reading
     requires { ⌜ ownerRefusal array stripe member ≡ 0 ⌝ }
-    ensures { λ r. ⌜ readingNumbers r ≡ answer (serveRefusal array stripe member (now (bytes .entry)) (length (now (out .entry)))) (standingAt array stripe member (blockOf (formatAt array) (now (bytes .entry)) member) ∷ []) ⌝ }
+    ensures { λ r. ⌜ readingNumbers r ≡ answer (serveRefusal array stripe member (now (bytes .entry)) (length (now (out .entry)))) (kindOf (standingAt array stripe member (blockOf (formatAt array) (now (bytes .entry)) member)) ∷ []) ⌝ }
     ensures { λ _. ⌜ now (out .exit) ≡ unlessRefused (serveRefusal array stripe member (now (bytes .entry)) (length (now (out .entry)))) (servedData array stripe member (now (bytes .entry))) (now (out .entry)) ⌝ }
 {
     let members = array.members;
@@ -36,7 +35,7 @@ fn serve(array: Array, stripe: u64, member: usize, bytes: &[u8], out: &mut [u8])
         return Reading::Refused(6);
     }
     let standing = standing(array, stripe, bytes, member);
-    if standing != BAD {
+    if !tag::is_bad(standing) {
         let from = block_at(method, member);
         let end = from + format::data_length(method);
         put(out, 0, &bytes[from..end]);

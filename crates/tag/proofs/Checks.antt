@@ -8,7 +8,7 @@ use Prim.Native.Nat.{ℕ, zero, suc, _+_, _-_, _≤_}
 use native.Mathlib.Omega.{arith}
 use borrow.Author.Tests.{eqb-true, eqb-false, eq-eqb, ne-eqb}
 use lib.Dec.{eqb}
-use lib.ListN.{length, take, drop, length-drop}
+use lib.ListN.{length, getD, take, drop, replicate, length-drop}
 use lib.Seq.{take-all}
 use Rattle.format.specs.Formats.{Format, guard}
 use Rattle.layout.specs.Answers.{refuse, after}
@@ -18,52 +18,46 @@ use Rattle.layout.specs.declared.Array.{Array}
 use Rattle.layout.proofs.Answers.{after-refused, answer-refused, refuse-none, refuse-last}
 use Rattle.layout.proofs.Ranges.{owner-else}
 use Rattle.tag.specs.Blocks.{formatAt, dataOf, tagOf}
-use Rattle.tag.specs.Tags.{found, tagWithin, due, dueAt, firstWrong, exempt, standingAt, good, unchecked, told, checkRefusal, checkNumbers}
+use Rattle.tag.specs.Tags.{found, tagWithin, dueAt, faults, exempt, standing, foundIn, expectedAt, standingAt, good, unchecked, kindOf, sideBySide, told, checkRefusal, checkNumbers}
 use Rattle.tag.specs.declared.Fields.{Fields}
 use Rattle.tag.proofs.Expected.{due-somewhere}
 use Rattle.tag.proofs.Within.{tag-inside}
-use Rattle.tag.proofs.Fits.{none-wrong, wrong-none, wrong-refused, by-first-wrong}
-use Rattle.tag.proofs.Cases.{standing-good, good-standing, unchecked-exempt}
+use Rattle.tag.proofs.Cases.{standing-exempt, standing-faults}
 
 -- ---- what is told by the fields found and due
 
 module _ (F : Format) (f e : Fields) where
-  pub told-exempt : exempt F f ≡ true → told F f e ≡ 4 ∷ 0 ∷ 0 ∷ []
+  pub told-exempt : exempt F f ≡ true → told F f e ≡ 2 ∷ replicate 9 0
   unfolding told
-  told-exempt h = rw h
+  told-exempt h = rw (h, standing-exempt F f e h)
 
-  pub told-checked : exempt F f ≡ false → told F f e ≡ firstWrong f e
+  pub told-checked : exempt F f ≡ false → told F f e ≡ kindOf (faults f e) ∷ sideBySide f e
   unfolding told
-  told-checked h = rw h
+  told-checked h = rw (h, standing-faults F f e h)
 
-  told-refused : map (λ (v : ℕ). zero) (told F f e) ≡ 0 ∷ 0 ∷ 0 ∷ []
+  told-refused : map (λ (v : ℕ). zero) (told F f e) ≡ replicate 10 0
   unfolding told
   told-refused = by-test (exempt F f)
     where
-      by-test : (x : Bool) → map (λ (v : ℕ). zero) (cond x (4 ∷ 0 ∷ 0 ∷ []) (firstWrong f e)) ≡ 0 ∷ 0 ∷ 0 ∷ []
+      by-test : (x : Bool) → map (λ (v : ℕ). zero) (kindOf (standing F f e) ∷ cond x (replicate 9 0) (sideBySide f e)) ≡ replicate 10 0
       by-test true = refl
-      by-test false = wrong-refused f e
+      by-test false = refl
 
-  -- 0 exactly where the block is good, 4 exactly where it is not to be checked
-  told-good : told F f e ≡ 0 ∷ 0 ∷ 0 ∷ [] → (exempt F f ≡ false) × (f ≡ e)
-  told-good = by-test (exempt F f) refl
-    where
-      by-test : (x : Bool) → exempt F f ≡ x → told F f e ≡ 0 ∷ 0 ∷ 0 ∷ [] → (exempt F f ≡ false) × (f ≡ e)
-      by-test true p h = let same : _≡_ {A = List ℕ} (4 ∷ 0 ∷ 0 ∷ []) (0 ∷ 0 ∷ 0 ∷ []) = sym (told-exempt p) ∙ h in let z : _≡_ {A = ℕ} 4 0 = cc in absurd (omega arith)
-      by-test false p h = (p, wrong-none f e (sym (told-checked p) ∙ h))
+kind-good : (how : ℕ) → kindOf how ≡ 0 → eqb how 0 ≡ true
+kind-good how = by-tests (eqb how 0) (eqb how 8) refl
+  where
+    by-tests : (z e : Bool) → eqb how 0 ≡ z → _≡_ {A = ℕ} (cond z 0 (cond e 2 1)) 0 → eqb how 0 ≡ true
+    by-tests true e p h = p
+    by-tests false true p h = absurd (omega arith)
+    by-tests false false p h = absurd (omega arith)
 
-  told-unchecked : told F f e ≡ 4 ∷ 0 ∷ 0 ∷ [] → exempt F f ≡ true
-  told-unchecked = by-test (exempt F f) refl
-    where
-      four : firstWrong f e ≡ 4 ∷ 0 ∷ 0 ∷ [] → exempt F f ≡ true
-      four =
-          by-first-wrong f e (λ l. l ≡ 4 ∷ 0 ∷ 0 ∷ [] → exempt F f ≡ true) (λ h. let z : _≡_ {A = ℕ} 1 4 = cc in absurd (omega arith))
-          (λ h. let z : _≡_ {A = ℕ} 2 4 = cc in absurd (omega arith)) (λ h. let z : _≡_ {A = ℕ} 3 4 = cc in absurd (omega arith))
-          (λ same h. let z : _≡_ {A = ℕ} 0 4 = cc in absurd (omega arith))
-
-      by-test : (x : Bool) → exempt F f ≡ x → told F f e ≡ 4 ∷ 0 ∷ 0 ∷ [] → exempt F f ≡ true
-      by-test true p h = p
-      by-test false p h = four (sym (told-checked p) ∙ h)
+kind-unchecked : (how : ℕ) → kindOf how ≡ 2 → eqb how 8 ≡ true
+kind-unchecked how = by-tests (eqb how 0) (eqb how 8) refl
+  where
+    by-tests : (z e : Bool) → eqb how 8 ≡ e → _≡_ {A = ℕ} (cond z 0 (cond e 2 1)) 2 → eqb how 8 ≡ true
+    by-tests true e p h = absurd (omega arith)
+    by-tests false true p h = p
+    by-tests false false p h = absurd (omega arith)
 
 module _ (a : Array) (stripe member : ℕ) where
   -- ---- refused
@@ -99,43 +93,33 @@ module _ (a : Array) (stripe member : ℕ) where
   -- ---- the numbers
 
   module _ (block : List ℕ) where
-    abbrev tagFound : Fields
-    tagFound = found (formatAt a) (tagOf (formatAt a) block)
-
-    abbrev tagDue : Fields
-    tagDue = due a stripe member (guard (formatAt a) (dataOf (formatAt a) block))
-
     pub check-refused : checkRefusal a stripe member (length block) ≢ 0 →
-        checkNumbers a stripe member block ≡ 0 ∷ checkRefusal a stripe member (length block) ∷ 0 ∷ 0 ∷ 0 ∷ []
+        checkNumbers a stripe member block ≡ 0 ∷ checkRefusal a stripe member (length block) ∷ replicate 10 0
     unfolding checkNumbers
     check-refused h =
-        answer-refused (checkRefusal a stripe member (length block)) (told (formatAt a) tagFound tagDue) h
-        ∙ ap (λ (l : List ℕ). 0 ∷ checkRefusal a stripe member (length block) ∷ l) (told-refused (formatAt a) tagFound tagDue)
+        answer-refused (checkRefusal a stripe member (length block)) (told (formatAt a) (foundIn a block) (expectedAt a stripe member block)) h
+        ∙ ap (λ (l : List ℕ). 0 ∷ checkRefusal a stripe member (length block) ∷ l) (told-refused (formatAt a) (foundIn a block) (expectedAt a stripe member block))
 
-    pub check-answered : checkRefusal a stripe member (length block) ≡ 0 → checkNumbers a stripe member block ≡ 1 ∷ 0 ∷ told (formatAt a) tagFound tagDue
+    pub check-answered : checkRefusal a stripe member (length block) ≡ 0 →
+        checkNumbers a stripe member block ≡ 1 ∷ 0 ∷ told (formatAt a) (foundIn a block) (expectedAt a stripe member block)
     unfolding checkNumbers
     check-answered e = rw e
 
-    answered : checkRefusal a stripe member (length block) ≡ 0 → (l : List ℕ) → checkNumbers a stripe member block ≡ 1 ∷ 0 ∷ l → told (formatAt a) tagFound tagDue ≡ l
-    answered sound l h = let same : 1 ∷ 0 ∷ told (formatAt a) tagFound tagDue ≡ 1 ∷ 0 ∷ l = sym (check-answered sound) ∙ h in cc
+    -- the kind that is told is how the block stands
+    pub check-kind : checkRefusal a stripe member (length block) ≡ 0 → getD (checkNumbers a stripe member block) 2 0 ≡ kindOf (standingAt a stripe member block)
+    unfolding checkNumbers told standingAt
+    check-kind e = rw e
 
-    pub check-good : checkRefusal a stripe member (length block) ≡ 0 →
-        (good a stripe member block ≡ true) ↔ (checkNumbers a stripe member block ≡ 1 ∷ 0 ∷ 0 ∷ 0 ∷ 0 ∷ [])
-    unfolding standingAt
+    pub check-good : checkRefusal a stripe member (length block) ≡ 0 → (good a stripe member block ≡ true) ↔ (getD (checkNumbers a stripe member block) 2 0 ≡ 0)
     check-good sound = (
-      λ h.
-          let k = standing-good (formatAt a) tagFound tagDue (eqb-true _ 0 h) in
-          check-answered sound ∙ ap (λ (l : List ℕ). 1 ∷ 0 ∷ l) (told-checked (formatAt a) tagFound tagDue (k .0) ∙ none-wrong tagFound tagDue (k .1)),
-      λ h.
-          let k = told-good (formatAt a) tagFound tagDue (answered sound (0 ∷ 0 ∷ 0 ∷ []) h) in
-          eq-eqb _ 0 (good-standing (formatAt a) tagFound tagDue (k .0) (k .1)),
+      λ h. check-kind sound ∙ ap kindOf (eqb-true (standingAt a stripe member block) 0 h),
+      λ h. kind-good (standingAt a stripe member block) (sym (check-kind sound) ∙ h),
     )
 
-    pub check-unchecked : checkRefusal a stripe member (length block) ≡ 0 →
-        (unchecked a stripe member block ≡ true) ↔ (checkNumbers a stripe member block ≡ 1 ∷ 0 ∷ 4 ∷ 0 ∷ 0 ∷ [])
+    pub check-unchecked : checkRefusal a stripe member (length block) ≡ 0 → (unchecked a stripe member block ≡ true) ↔ (getD (checkNumbers a stripe member block) 2 0 ≡ 2)
     check-unchecked sound = (
-      λ h. check-answered sound ∙ ap (λ (l : List ℕ). 1 ∷ 0 ∷ l) (told-exempt (formatAt a) tagFound tagDue (unchecked-exempt a stripe member block .0 h)),
-      λ h. unchecked-exempt a stripe member block .1 (told-unchecked (formatAt a) tagFound tagDue (answered sound (4 ∷ 0 ∷ 0 ∷ []) h)),
+      λ h. check-kind sound ∙ ap kindOf (eqb-true (standingAt a stripe member block) 8 h),
+      λ h. kind-unchecked (standingAt a stripe member block) (sym (check-kind sound) ∙ h),
     )
 
     -- the same by steps, as the code goes

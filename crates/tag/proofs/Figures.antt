@@ -17,9 +17,9 @@ use Rattle.layout.specs.Places.{parityMember, lowestBlock, blockAt, indexAt, bl
 use Rattle.layout.specs.declared.Array.{Array}
 use Rattle.tag.specs.Numbers.{bytesOf}
 use Rattle.tag.specs.Blocks.{tagOf}
-use Rattle.tag.specs.Tags.{tagBytes, found, applicationDue, referenceDue, due, fits, exempt, standing, firstWrong, told, checkedNumbers}
+use Rattle.tag.specs.Tags.{tagBytes, found, applicationDue, referenceDue, due, faults, exempt, standing, told, checkedNumbers}
 use Rattle.tag.specs.declared.Fields.{Fields}
-use Rattle.tag.specs.declared.Checked.the-variants.{Good, Guard, Application, Reference, Unchecked}
+use Rattle.tag.specs.declared.Checked.the-variants.{Unchecked, Told}
 use Rattle.tag.proofs.Numbers.{take-elements, number-of-two, number-of-four}
 
 -- ---- the sealed stripe of the outline: three members, volume 7, stripe 0; its parity, then its two blocks
@@ -70,25 +70,25 @@ module _ (block : List ℕ) (long : length block ≡ formatOf 1 .blockLength) wh
       small : (i : ℕ) → getD block i 0 < 256
       small i = bytes i
 
--- ---- which field a check names first: 1 guard, 2 application tag, 3 reference tag; then what was found, then what was due
+-- ---- what a check tells: the kind, then of guard, application tag and reference tag what was found, what was due, and whether they are the same
 
 abbrev fields : ℕ → ℕ → ℕ → Fields
 fields guard application reference = record { guard = guard; application = application; reference = reference }
 
-pub wrong-fields : (firstWrong (fields 5 6 7) (fields 1 2 3) ≡ 1 ∷ 5 ∷ 1 ∷ [])
-    × (firstWrong (fields 1 6 7) (fields 1 2 3) ≡ 2 ∷ 6 ∷ 2 ∷ [])
-    × (firstWrong (fields 1 2 7) (fields 1 2 3) ≡ 3 ∷ 7 ∷ 3 ∷ [])
-    × (firstWrong (fields 1 2 3) (fields 1 2 3) ≡ 0 ∷ 0 ∷ 0 ∷ [])
-unfolding firstWrong
-wrong-fields = (refl, refl, refl, refl)
+pub told-fields : (told (formatOf 1) (fields 5 6 7) (fields 1 2 3) ≡ 1 ∷ 5 ∷ 1 ∷ 0 ∷ 6 ∷ 2 ∷ 0 ∷ 7 ∷ 3 ∷ 0 ∷ [])
+    × (told (formatOf 1) (fields 1 6 3) (fields 1 2 3) ≡ 1 ∷ 1 ∷ 1 ∷ 1 ∷ 6 ∷ 2 ∷ 0 ∷ 3 ∷ 3 ∷ 1 ∷ [])
+    × (told (formatOf 1) (fields 1 2 3) (fields 1 2 3) ≡ 0 ∷ 1 ∷ 1 ∷ 1 ∷ 2 ∷ 2 ∷ 1 ∷ 3 ∷ 3 ∷ 1 ∷ [])
+    × (told (formatOf 1) (fields 5 0xFFFF 7) (fields 1 2 3) ≡ 2 ∷ 0 ∷ 0 ∷ 0 ∷ 0 ∷ 0 ∷ 0 ∷ 0 ∷ 0 ∷ 0 ∷ [])
+unfolding formatOf exempt told standing faults
+told-fields = (refl, refl, refl, refl)
 
--- a mark goes before every field; the same tag without it has three wrong fields
-pub told-fields : (told (formatOf 1) (fields 5 0xFFFF 7) (fields 1 2 3) ≡ 4 ∷ 0 ∷ 0 ∷ []) × (told (formatOf 1) (fields 5 0xFF00 7) (fields 1 2 3) ≡ 1 ∷ 5 ∷ 1 ∷ [])
-    × (standing (formatOf 1) (fields 1 0xFFFF 3) (fields 1 2 3) ≡ 2) × (standing (formatOf 1) (fields 1 0xFFFE 3) (fields 1 2 3) ≡ 1) × (standing (formatOf 1) (fields 1 2 3) (fields 1 2 3) ≡ 0)
-unfolding formatOf exempt told firstWrong standing fits
-told-fields = (refl, refl, refl, refl, refl)
+-- guard 4, application tag 2, reference tag 1; a mark goes before every field, and FF00h is none
+pub standing-fields : (standing (formatOf 1) (fields 5 2 3) (fields 1 2 3) ≡ 4) × (standing (formatOf 1) (fields 1 6 3) (fields 1 2 3) ≡ 2) × (standing (formatOf 1) (fields 1 2 7) (fields 1 2 3) ≡ 1)
+    × (standing (formatOf 1) (fields 5 0xFF00 7) (fields 1 2 3) ≡ 7) × (standing (formatOf 1) (fields 5 0xFFFF 7) (fields 1 2 3) ≡ 8) × (standing (formatOf 1) (fields 1 2 3) (fields 1 2 3) ≡ 0)
+unfolding formatOf exempt standing faults
+standing-fields = (refl, refl, refl, refl, refl, refl)
 
-pub check-names : (checkedNumbers Good ≡ 1 ∷ 0 ∷ 0 ∷ 0 ∷ 0 ∷ []) × (checkedNumbers (Guard 5 1) ≡ 1 ∷ 0 ∷ 1 ∷ 5 ∷ 1 ∷ [])
-    × (checkedNumbers (Application 6 2) ≡ 1 ∷ 0 ∷ 2 ∷ 6 ∷ 2 ∷ []) × (checkedNumbers (Reference 7 3) ≡ 1 ∷ 0 ∷ 3 ∷ 7 ∷ 3 ∷ [])
-    × (checkedNumbers Unchecked ≡ 1 ∷ 0 ∷ 4 ∷ 0 ∷ 0 ∷ [])
-check-names = (refl, refl, refl, refl, refl)
+pub check-names : (checkedNumbers Unchecked ≡ 1 ∷ 0 ∷ 2 ∷ 0 ∷ 0 ∷ 0 ∷ 0 ∷ 0 ∷ 0 ∷ 0 ∷ 0 ∷ 0 ∷ [])
+    × (checkedNumbers (Told (fields 5 2 3) (fields 1 2 3)) ≡ 1 ∷ 0 ∷ 1 ∷ 5 ∷ 1 ∷ 0 ∷ 2 ∷ 2 ∷ 1 ∷ 3 ∷ 3 ∷ 1 ∷ [])
+unfolding faults
+check-names = (refl, refl)

@@ -19,7 +19,7 @@ use Rattle.tag.specs.declared.Fields.{Fields}
 use Rattle.tag.proofs.Cases.{good-fields}
 
 -- the mark in the application tag tells the kind
-marks : (x y : Bool) (v scale : ℕ) → 0 < scale → (cond x 0x8000 0 + v) * scale ≡ (cond y 0x8000 0 + v) * scale → x ≡ y
+pub marks : (x y : Bool) (v scale : ℕ) → 0 < scale → (cond x 0x8000 0 + v) * scale ≡ (cond y 0x8000 0 + v) * scale → x ≡ y
 marks true true v scale h e = refl
 marks true false v scale h e = absurd (omega (arith, add-mul 0x8000 v scale, add-mul 0 v scale))
 marks false true v scale h e = absurd (omega (arith, add-mul 0x8000 v scale, add-mul 0 v scale))

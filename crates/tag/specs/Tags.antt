@@ -8,13 +8,14 @@ use lib.ListN.{length, take, drop, replicate}
 use lib.Seq.{sets}
 use Rattle.format.specs.Formats.{Format, guard}
 use Rattle.layout.specs.Answers.{refuse, after, answer}
+use Rattle.layout.specs.Arrays.{within}
 use Rattle.layout.specs.Places.{isParity, blockNamed, referenceOf, ownerRefusal}
 use Rattle.layout.specs.declared.Array.{Array}
 use Rattle.tag.specs.Numbers.{bytesOf, numberOf}
 use Rattle.tag.specs.Blocks.{formatAt, dataOf, tagOf}
 use Rattle.tag.specs.declared.Fields.{Fields}
 use Rattle.tag.specs.declared.Checked.{Checked}
-use Rattle.tag.specs.declared.Checked.the-variants.{Refused, Good, Guard, Application, Reference, Unchecked}
+use Rattle.tag.specs.declared.Checked.the-variants.{Refused, Unchecked, Told}
 
 module _ (F : Format) where
   -- the fields fit their bytes
@@ -60,62 +61,71 @@ unfoldable pub dueAt : Array → ℕ → ℕ → ℕ → Fields
 dueAt a stripe member dataGuard =
     cond (eqb (ownerRefusal a stripe member) 0) (due a stripe member dataGuard) (record { guard = 0; application = 0; reference = 0 })
 
--- the first field that differs, 1 guard, 2 application, 3 reference, with what was found and what was due; 0 where none does
-unfoldable pub firstWrong : Fields → Fields → List ℕ
-firstWrong f e =
-    cond (not (eqb (f .guard) (e .guard))) (1 ∷ f .guard ∷ e .guard ∷ [])
-    (cond (not (eqb (f .application) (e .application))) (2 ∷ f .application ∷ e .application ∷ [])
-    (cond (not (eqb (f .reference) (e .reference))) (3 ∷ f .reference ∷ e .reference ∷ [])
-    (0 ∷ 0 ∷ 0 ∷ [])))
-
--- all three fields are those due
-unfoldable pub fits : Fields → Fields → Bool
-fits f e = eqb (f .guard) (e .guard) && eqb (f .application) (e .application) && eqb (f .reference) (e .reference)
-
 -- ---- how a block stands at a place: good, bad or unchecked
+
+-- which fields are not those due, as one number: 4 for the guard, 2 for the application tag, 1 for the reference tag
+unfoldable pub faults : Fields → Fields → ℕ
+faults f e =
+    cond (eqb (f .guard) (e .guard)) 0 4 + cond (eqb (f .application) (e .application)) 0 2 + cond (eqb (f .reference) (e .reference)) 0 1
 
 module _ (F : Format) where
   -- the two bytes of the application tag stand as FFFFh: the block is not to be checked
   unfoldable pub exempt : Fields → Bool
   exempt f = eqb (f .application / F .scale) 0xFFFF
 
-  -- 2 unchecked; else 0 good, where every field is the one due, and 1 bad, where some is not
+  -- 8 unchecked; else 0 good, where every field is the one due, and from 1 to 7 bad, by the fields that are not
   unfoldable pub standing : Fields → Fields → ℕ
-  standing f e = cond (exempt f) 2 (cond (fits f e) 0 1)
+  standing f e = cond (exempt f) 8 (faults f e)
+
+-- the fields found in a block's tag, and those due to its data at a place
+abbrev pub foundIn : Array → List ℕ → Fields
+foundIn a block = found (formatAt a) (tagOf (formatAt a) block)
+
+abbrev pub expectedAt : Array → ℕ → ℕ → List ℕ → Fields
+expectedAt a stripe member block = due a stripe member (guard (formatAt a) (dataOf (formatAt a) block))
 
 unfoldable pub standingAt : Array → ℕ → ℕ → List ℕ → ℕ
-standingAt a stripe member block =
-    standing (formatAt a) (found (formatAt a) (tagOf (formatAt a) block)) (due a stripe member (guard (formatAt a) (dataOf (formatAt a) block)))
+standingAt a stripe member block = standing (formatAt a) (foundIn a block) (expectedAt a stripe member block)
+
+abbrev pub isBad : ℕ → Bool
+isBad how = within 1 7 how
 
 abbrev pub good : Array → ℕ → ℕ → List ℕ → Bool
 good a stripe member block = eqb (standingAt a stripe member block) 0
 
 abbrev pub bad : Array → ℕ → ℕ → List ℕ → Bool
-bad a stripe member block = eqb (standingAt a stripe member block) 1
+bad a stripe member block = isBad (standingAt a stripe member block)
 
 abbrev pub unchecked : Array → ℕ → ℕ → List ℕ → Bool
-unchecked a stripe member block = eqb (standingAt a stripe member block) 2
+unchecked a stripe member block = eqb (standingAt a stripe member block) 8
+
+-- the same in three numbers: 0 good, 1 bad, 2 unchecked
+abbrev pub kindOf : ℕ → ℕ
+kindOf how = cond (eqb how 0) 0 (cond (eqb how 8) 2 1)
 
 -- data with the tag due to them at a place
 unfoldable pub tagged : Array → ℕ → ℕ → List ℕ → List ℕ
 tagged a stripe member bytes = bytes ++ tagBytes (formatAt a) (due a stripe member (guard (formatAt a) bytes))
 
--- ---- check, in numbers: which field is wrong, found, expected; 4 and no values of a block that is not to be checked
+-- ---- check, in numbers: 0 good, 1 bad, 2 unchecked; then of guard, application tag and reference tag each what was found, what was
+-- due, and 1 where they are the same. Of a block that is not to be checked no values.
+
+abbrev pub beside : ℕ → ℕ → List ℕ
+beside found due = found ∷ due ∷ cond (eqb found due) 1 0 ∷ []
+
+abbrev pub sideBySide : Fields → Fields → List ℕ
+sideBySide f e = beside (f .guard) (e .guard) ++ beside (f .application) (e .application) ++ beside (f .reference) (e .reference)
 
 unfoldable pub told : Format → Fields → Fields → List ℕ
-told F f e = cond (exempt F f) (4 ∷ 0 ∷ 0 ∷ []) (firstWrong f e)
+told F f e = kindOf (standing F f e) ∷ cond (exempt F f) (replicate 9 0) (sideBySide f e)
 
 unfoldable pub checkRefusal : Array → ℕ → ℕ → ℕ → ℕ
 checkRefusal a stripe member blockBytes = after (ownerRefusal a stripe member) (refuse (not (eqb blockBytes (formatAt a .blockLength))) 6 0)
 
 unfoldable pub checkNumbers : Array → ℕ → ℕ → List ℕ → List ℕ
-checkNumbers a stripe member block =
-    answer (checkRefusal a stripe member (length block)) (told (formatAt a) (found (formatAt a) (tagOf (formatAt a) block)) (due a stripe member (guard (formatAt a) (dataOf (formatAt a) block))))
+checkNumbers a stripe member block = answer (checkRefusal a stripe member (length block)) (told (formatAt a) (foundIn a block) (expectedAt a stripe member block))
 
 abbrev pub checkedNumbers : Checked → List ℕ
-checkedNumbers (Refused number) = 0 ∷ number ∷ 0 ∷ 0 ∷ 0 ∷ []
-checkedNumbers Good = 1 ∷ 0 ∷ 0 ∷ 0 ∷ 0 ∷ []
-checkedNumbers (Guard f e) = 1 ∷ 0 ∷ 1 ∷ f ∷ e ∷ []
-checkedNumbers (Application f e) = 1 ∷ 0 ∷ 2 ∷ f ∷ e ∷ []
-checkedNumbers (Reference f e) = 1 ∷ 0 ∷ 3 ∷ f ∷ e ∷ []
-checkedNumbers Unchecked = 1 ∷ 0 ∷ 4 ∷ 0 ∷ 0 ∷ []
+checkedNumbers (Refused number) = 0 ∷ number ∷ replicate 10 0
+checkedNumbers Unchecked = 1 ∷ 0 ∷ 2 ∷ replicate 9 0
+checkedNumbers (Told f e) = 1 ∷ 0 ∷ kindOf (faults f e) ∷ sideBySide f e

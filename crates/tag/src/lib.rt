@@ -6,11 +6,13 @@ use layout::Owned;
 ghost use mathlib.Core.Path.{_≡_};
 ghost use mathlib.Core.List.{_∷_, _++_};
 ghost use Prim.Native.Nat.{_+_, _*_, _/_, _%_, _^_, _<_, _≤_};
+ghost use mathlib.Core.Bool.{cond};
+ghost use lib.Dec.{eqb};
 ghost use lib.ListN.{length, take, drop};
 ghost use lib.Seq.{sets};
 ghost use Rattle.format.specs.Methods.{formatOf};
 ghost use Rattle.tag.specs.Numbers.{bytesOf, numberOf};
-ghost use Rattle.tag.specs.Tags.{tagWithin, tagWritten, found, dueAt, fits, exempt, standing, firstWrong, told, checkRefusal, checkNumbers, checkedNumbers};
+ghost use Rattle.tag.specs.Tags.{tagWithin, tagWritten, found, dueAt, faults, exempt, standing, isBad, told, checkRefusal, checkNumbers, checkedNumbers};
 
 // What marks a parity block in its application tag, above the volume.
 const PARITY: u16 = 0x8000;
@@ -18,12 +20,16 @@ const PARITY: u16 = 0x8000;
 // What the two bytes of an application tag are in a block that is not to be checked.
 const EXEMPT: u64 = 0xFFFF;
 
-// How a block stands at its place.
+// How a block stands at its place: good, unchecked, and any other number bad, by the fields that are not those due.
 pub const GOOD: u8 = 0;
 
-pub const BAD: u8 = 1;
+pub const UNCHECKED: u8 = 8;
 
-pub const UNCHECKED: u8 = 2;
+const GUARD: u8 = 4;
+
+const APPLICATION: u8 = 2;
+
+const REFERENCE: u8 = 1;
 
 // The three fields of a tag.
 pub struct Fields {
@@ -32,14 +38,11 @@ pub struct Fields {
     pub reference: u64,
 }
 
-// What a check of a block says: good, or the first field that is wrong, as found and as expected; or that it is not to be checked.
+// What a check of a block says: its fields as found and as expected; or that it is not to be checked.
 pub enum Checked {
     Refused(u8),
-    Good,
-    Guard { found: u64, expected: u64 },
-    Application { found: u64, expected: u64 },
-    Reference { found: u64, expected: u64 },
     Unchecked,
+    Told { found: Fields, expected: Fields },
 }
 
 // Two bytes as a number: the highest first.
@@ -209,21 +212,25 @@ pub fn due(array: Array, stripe: u64, member: usize, guard: u32) -> Fields
     }
 }
 
-// Whether a tag is the one due.
-fn is_due(found: Fields, expected: Fields) -> bool
-    ensures { λ r. ⌜ r ≡ fits found expected ⌝ }
+// A number where two differ, 0 where they are the same.
+fn unless_same(found: u64, expected: u64, number: u8) -> u8
+    ensures { λ r. ⌜ r ≤ number ⌝ }
+    ensures { λ r. ⌜ r ≡ cond (eqb found expected) 0 number ⌝ }
 {
-    let application = expected.application;
-    if found.guard != expected.guard {
-        return false;
-    }
-    if found.application != application {
-        return false;
-    }
-    found.reference == expected.reference
+    if found == expected { 0 } else { number }
 }
 
-// Whether a block with this application tag is not to be checked.
+// Which fields of a tag are not those of the one due.
+pub fn faults(found: Fields, expected: Fields) -> u8
+    ensures { λ r. ⌜ r ≡ faults found expected ⌝ }
+{
+    let guard = unless_same(found.guard, expected.guard, GUARD);
+    let application = unless_same(found.application, expected.application, APPLICATION);
+    let reference = unless_same(found.reference, expected.reference, REFERENCE);
+    guard + application + reference
+}
+
+// Whether a block with this tag is not to be checked.
 fn is_exempt(method: u8, tag: Fields) -> bool
     ensures { λ r. ⌜ r ≡ exempt (formatOf method) tag ⌝ }
 {
@@ -237,35 +244,17 @@ pub fn standing(method: u8, found: Fields, expected: Fields) -> u8
     if is_exempt(method, found) {
         return UNCHECKED;
     }
-    if is_due(found, expected) {
-        return GOOD;
-    }
-    BAD
+    faults(found, expected)
 }
 
-// The first field in which a tag differs from the one due.
-fn first_wrong(found: Fields, expected: Fields) -> Checked
-    ensures { λ r. ⌜ checkedNumbers r ≡ 1 ∷ 0 ∷ firstWrong found expected ⌝ }
+// Whether a block that stands so is bad.
+pub fn is_bad(how: u8) -> bool
+    ensures { λ r. ⌜ r ≡ isBad how ⌝ }
 {
-    if found.guard != expected.guard {
-        return Checked::Guard {
-            found: found.guard,
-            expected: expected.guard,
-        };
+    if how == GOOD {
+        return false;
     }
-    if found.application != expected.application {
-        return Checked::Application {
-            found: found.application,
-            expected: expected.application,
-        };
-    }
-    if found.reference != expected.reference {
-        return Checked::Reference {
-            found: found.reference,
-            expected: expected.reference,
-        };
-    }
-    Checked::Good
+    how < UNCHECKED
 }
 
 // What a check says of a block with this tag where that one is due.
@@ -275,7 +264,7 @@ fn said(method: u8, found: Fields, expected: Fields) -> Checked
     if is_exempt(method, found) {
         return Checked::Unchecked;
     }
-    first_wrong(found, expected)
+    Checked::Told { found, expected }
 }
 
 // The refusal number of a check: the place's own, then 6 where the block has another length.

@@ -2,23 +2,23 @@
 use mathlib.Core.Path.{_≡_, refl}
 use mathlib.Core.Bool.{Bool, true, false}
 use mathlib.Core.List.{List, [], _∷_}
-use Rattle.verdict.specs.Verdicts.{standingAs, judged, verdictNumbers, quickRefusal, quickNumbers, comparedNumbers}
+use Rattle.verdict.specs.Verdicts.{standingIn, judged, verdictNumbers, quickRefusal, quickNumbers, comparedNumbers}
 use Rattle.verdict.specs.declared.Verdict.the-variants.{Clean, Bad, Torn, Unchecked}
 use Rattle.verdict.specs.declared.Compared.the-variants.{Fits, Differs}
 
 abbrev none : List Bool
 none = false ∷ false ∷ false ∷ []
 
--- clean; two bad members, the lowest 1; torn at place 2; two unchecked, the lowest 0; bad and unchecked and torn, which is bad;
--- unchecked and torn, which is unchecked
-pub verdicts : (judged (0 ∷ 0 ∷ 0 ∷ []) none ≡ 0 ∷ 0 ∷ 0 ∷ []) × (judged (0 ∷ 1 ∷ 1 ∷ []) none ≡ 1 ∷ 1 ∷ 2 ∷ [])
-    × (judged (0 ∷ 0 ∷ 0 ∷ []) (false ∷ false ∷ true ∷ []) ≡ 2 ∷ 2 ∷ 0 ∷ []) × (judged (2 ∷ 0 ∷ 2 ∷ []) none ≡ 3 ∷ 0 ∷ 2 ∷ [])
-    × (judged (2 ∷ 2 ∷ 1 ∷ []) (true ∷ true ∷ []) ≡ 1 ∷ 2 ∷ 1 ∷ []) × (judged (0 ∷ 2 ∷ 0 ∷ []) (true ∷ true ∷ []) ≡ 3 ∷ 1 ∷ 1 ∷ [])
-unfolding judged standingAs
+-- clean; two bad members, the lowest 1, its guard wrong; torn at place 2; two unchecked, the lowest 0; bad and unchecked and torn, which is
+-- bad; unchecked and torn, which is unchecked
+pub verdicts : (judged (0 ∷ 0 ∷ 0 ∷ []) none ≡ 0 ∷ 0 ∷ 0 ∷ 0 ∷ []) × (judged (0 ∷ 4 ∷ 3 ∷ []) none ≡ 1 ∷ 1 ∷ 2 ∷ 4 ∷ [])
+    × (judged (0 ∷ 0 ∷ 0 ∷ []) (false ∷ false ∷ true ∷ []) ≡ 2 ∷ 2 ∷ 0 ∷ 0 ∷ []) × (judged (8 ∷ 0 ∷ 8 ∷ []) none ≡ 3 ∷ 0 ∷ 2 ∷ 0 ∷ [])
+    × (judged (8 ∷ 8 ∷ 7 ∷ []) (true ∷ true ∷ []) ≡ 1 ∷ 2 ∷ 1 ∷ 7 ∷ []) × (judged (0 ∷ 8 ∷ 0 ∷ []) (true ∷ true ∷ []) ≡ 3 ∷ 1 ∷ 1 ∷ 0 ∷ [])
+unfolding judged standingIn
 verdicts = (refl, refl, refl, refl, refl, refl)
 
-pub verdict-names : (verdictNumbers Clean ≡ 0 ∷ 0 ∷ 0 ∷ []) × (verdictNumbers (Bad 1 2) ≡ 1 ∷ 1 ∷ 2 ∷ []) × (verdictNumbers (Torn 2) ≡ 2 ∷ 2 ∷ 0 ∷ [])
-    × (verdictNumbers (Unchecked 0 2) ≡ 3 ∷ 0 ∷ 2 ∷ [])
+pub verdict-names : (verdictNumbers Clean ≡ 0 ∷ 0 ∷ 0 ∷ 0 ∷ []) × (verdictNumbers (Bad 1 2 4) ≡ 1 ∷ 1 ∷ 2 ∷ 4 ∷ []) × (verdictNumbers (Torn 2) ≡ 2 ∷ 2 ∷ 0 ∷ 0 ∷ [])
+    × (verdictNumbers (Unchecked 0 2) ≡ 3 ∷ 0 ∷ 2 ∷ 0 ∷ [])
 verdict-names = (refl, refl, refl, refl)
 
 -- guards that combine to zero; to 7; too few of them

@@ -10,19 +10,19 @@ use Rattle.verdict.specs.declared.Compared.the-variants.{Fits, Differs, 
 
 pub verdict-injective : (x y : Verdict) → verdictNumbers x ≡ verdictNumbers y → x ≡ y
 verdict-injective Clean Clean e = cc
-verdict-injective Clean (Bad n l) e = cc
+verdict-injective Clean (Bad n l g) e = cc
 verdict-injective Clean (Torn q) e = cc
 verdict-injective Clean (Unchecked n l) e = cc
-verdict-injective (Bad m k) Clean e = cc
-verdict-injective (Bad m k) (Bad n l) e = cc
-verdict-injective (Bad m k) (Torn q) e = cc
-verdict-injective (Bad m k) (Unchecked n l) e = cc
+verdict-injective (Bad m k f) Clean e = cc
+verdict-injective (Bad m k f) (Bad n l g) e = cc
+verdict-injective (Bad m k f) (Torn q) e = cc
+verdict-injective (Bad m k f) (Unchecked n l) e = cc
 verdict-injective (Torn p) Clean e = cc
-verdict-injective (Torn p) (Bad n l) e = cc
+verdict-injective (Torn p) (Bad n l g) e = cc
 verdict-injective (Torn p) (Torn q) e = cc
 verdict-injective (Torn p) (Unchecked n l) e = cc
 verdict-injective (Unchecked m k) Clean e = cc
-verdict-injective (Unchecked m k) (Bad n l) e = cc
+verdict-injective (Unchecked m k) (Bad n l g) e = cc
 verdict-injective (Unchecked m k) (Torn q) e = cc
 verdict-injective (Unchecked m k) (Unchecked n l) e = cc
 

@@ -5,7 +5,7 @@ use mathlib.Core.Bool.{Bool, true, false, not, cond}
 use mathlib.Core.List.{List, [], _∷_, map}
 use lib.Bits.{bitXor}
 use lib.Dec.{eqb, ltb}
-use lib.ListN.{length}
+use lib.ListN.{length, getD}
 use Rattle.layout.specs.Answers.{refuse, answer}
 use Rattle.layout.specs.Arrays.{within}
 use Rattle.verdict.specs.declared.Verdict.{Verdict}
@@ -30,32 +30,47 @@ lowest (false ∷ flags) = suc (lowest flags)
 unfoldable pub nonzero : List ℕ → List Bool
 nonzero bytes = map (λ x. not (eqb x 0)) bytes
 
--- members stand as 0 good, 1 bad or 2 unchecked: which of them stand so
-unfoldable pub standingAs : ℕ → List ℕ → List Bool
-standingAs k members = map (λ x. eqb x k) members
+-- ---- a verdict, in numbers: its kind, a member or a place, a count, and which fields of that member are not those due
 
--- the lowest of the members that stand so, and their count, after the number that says it
-abbrev pub tells : ℕ → List Bool → List ℕ
-tells kind flags = kind ∷ lowest flags ∷ count flags ∷ []
+abbrev pub saysClean : List ℕ
+saysClean = 0 ∷ 0 ∷ 0 ∷ 0 ∷ []
 
--- in numbers: 1 bad, with the lowest bad member and their count; else 3 unchecked, with the lowest unchecked member and their count;
--- else 2 torn, with the lowest place; else 0 clean
+abbrev pub saysBad : ℕ → ℕ → ℕ → List ℕ
+saysBad member n faults = 1 ∷ member ∷ n ∷ faults ∷ []
+
+abbrev pub saysTorn : ℕ → List ℕ
+saysTorn place = 2 ∷ place ∷ 0 ∷ 0 ∷ []
+
+abbrev pub saysUnchecked : ℕ → ℕ → List ℕ
+saysUnchecked member n = 3 ∷ member ∷ n ∷ 0 ∷ []
+
+-- members stand as 0 good, from 1 to 7 bad, by the fields that are not those due, or 8 unchecked: which of them stand within a range
+unfoldable pub standingIn : ℕ → ℕ → List ℕ → List Bool
+standingIn least most members = map (within least most) members
+
+abbrev pub bads : List ℕ → List Bool
+bads members = standingIn 1 7 members
+
+abbrev pub uncheckeds : List ℕ → List Bool
+uncheckeds members = standingIn 8 8 members
+
+-- bad, with the lowest bad member, their count and its faults; else unchecked, with the lowest unchecked member and their count; else torn,
+-- with the lowest place; else clean
 unfoldable pub judged : List ℕ → List Bool → List ℕ
 judged members torn =
-    let bads = standingAs 1 members in
-    let uncheckeds = standingAs 2 members in
-    cond (ltb 0 (count bads)) (tells 1 bads)
-    (cond (ltb 0 (count uncheckeds)) (tells 3 uncheckeds) (cond (ltb 0 (count torn)) (2 ∷ lowest torn ∷ 0 ∷ []) (0 ∷ 0 ∷ 0 ∷ [])))
+    cond (ltb 0 (count (bads members))) (saysBad (lowest (bads members)) (count (bads members)) (getD members (lowest (bads members)) 0))
+    (cond (ltb 0 (count (uncheckeds members))) (saysUnchecked (lowest (uncheckeds members)) (count (uncheckeds members)))
+    (cond (ltb 0 (count torn)) (saysTorn (lowest torn)) saysClean))
 
 abbrev pub verdictNumbers : Verdict → List ℕ
-verdictNumbers Clean = 0 ∷ 0 ∷ 0 ∷ []
-verdictNumbers (Bad member n) = 1 ∷ member ∷ n ∷ []
-verdictNumbers (Torn place) = 2 ∷ place ∷ 0 ∷ []
-verdictNumbers (Unchecked member n) = 3 ∷ member ∷ n ∷ []
+verdictNumbers Clean = saysClean
+verdictNumbers (Bad member n faults) = saysBad member n faults
+verdictNumbers (Torn place) = saysTorn place
+verdictNumbers (Unchecked member n) = saysUnchecked member n
 
 -- of a scrub: refused, or done and its verdict
 abbrev pub scrubbedNumbers : Scrubbed → List ℕ
-scrubbedNumbers (Refused number) = 0 ∷ number ∷ 0 ∷ 0 ∷ 0 ∷ []
+scrubbedNumbers (Refused number) = 0 ∷ number ∷ 0 ∷ 0 ∷ 0 ∷ 0 ∷ []
 scrubbedNumbers (Found v) = 1 ∷ 0 ∷ verdictNumbers v
 
 -- ---- the quick scrub: the stored guards alone. In numbers: 0 where they combine to zero (fits), 1 where not (differs), and the combination

@@ -1,12 +1,13 @@
 // The verdict on how a stripe's members stand and on their combined data, and the quick scrub of its stored guards: all of a scrub that looks at no block.
 ghost use mathlib.Core.Path.{_≡_};
 ghost use Prim.Native.Nat.{max};
+ghost use Rattle.layout.specs.Arrays.{within};
 ghost use lib.Dec.{eqb};
 ghost use Rattle.verdict.specs.Verdicts.{
   count,
   lowest,
   nonzero,
-  standingAs,
+  standingIn,
   judged,
   verdictNumbers,
   combinedGuards,
@@ -15,19 +16,30 @@ ghost use Rattle.verdict.specs.Verdicts.{
   comparedNumbers,
 };
 
-// How a member that is not good stands.
-const BAD: u8 = 1;
+// How members that are not good stand: the range of the bad ones, by the fields that are not those due, and the unchecked ones.
+const LEAST_BAD: u8 = 1;
 
-const UNCHECKED: u8 = 2;
+const MOST_BAD: u8 = 7;
 
-// What a scrub finds in a stripe: every member good and parity right; the lowest of `count` bad members; with none bad, the lowest of
-// `count` unchecked ones; or, with every member good, the lowest place where the members' data do not combine to zero (01 calls such a
+const UNCHECKED: u8 = 8;
+
+// What a scrub finds in a stripe: every member good and parity right; the lowest of `count` bad members, and which of its fields are not
+// those due (4 the guard, 2 the application tag, 1 the reference tag); with none bad, the lowest of `count` unchecked ones; or, with every member good, the lowest place where the members' data do not combine to zero (01 calls such a
 // stripe torn).
 pub enum Verdict {
     Clean,
-    Bad { member: usize, count: usize },
-    Torn { place: usize },
-    Unchecked { member: usize, count: usize },
+    Bad {
+        member: usize,
+        count: usize,
+        faults: u8,
+    },
+    Torn {
+        place: usize,
+    },
+    Unchecked {
+        member: usize,
+        count: usize,
+    },
 }
 
 // Members that stand alike: the lowest of them, and how many they are. Where there is none the lowest is the number of members.
@@ -86,17 +98,27 @@ fn first_nonzero(bytes: &[u8]) -> usize
     place
 }
 
-// The members that stand so, found from the highest down.
-fn standing_as(kind: u8, members: &[u8]) -> Alike
-    ensures { λ r. ⌜ r .lowest ≡ lowest (standingAs kind (now (members .entry))) ⌝ }
-    ensures { λ r. ⌜ r .count ≡ count (standingAs kind (now (members .entry))) ⌝ }
+// Whether a member stands within a range.
+fn is_in(least: u8, most: u8, how: u8) -> bool
+    ensures { λ r. ⌜ r ≡ within least most how ⌝ }
+{
+    if how < least {
+        return false;
+    }
+    how <= most
+}
+
+// The members that stand within a range, found from the highest down.
+fn standing_in(least: u8, most: u8, members: &[u8]) -> Alike
+    ensures { λ r. ⌜ r .lowest ≡ lowest (standingIn least most (now (members .entry))) ⌝ }
+    ensures { λ r. ⌜ r .count ≡ count (standingIn least most (now (members .entry))) ⌝ }
 {
     let mut lowest = members.len();
     let mut count: usize = 0;
     let mut member = members.len();
     while 0 < member {
         member -= 1;
-        if members[member] == kind {
+        if is_in(least, most, members[member]) {
             lowest = member;
             count += 1;
         }
@@ -108,14 +130,16 @@ fn standing_as(kind: u8, members: &[u8]) -> Alike
 pub fn judge(members: &[u8], combined: &[u8]) -> Verdict
     ensures { λ r. ⌜ verdictNumbers r ≡ judged (now (members .entry)) (nonzero (now (combined .entry))) ⌝ }
 {
-    let bad = standing_as(BAD, members);
-    if 0 < bad.count {
+    let bad = standing_in(LEAST_BAD, MOST_BAD, members);
+    let lowest = bad.lowest;
+    if lowest < members.len() {
         return Verdict::Bad {
-            member: bad.lowest,
+            member: lowest,
             count: bad.count,
+            faults: members[lowest],
         };
     }
-    let unchecked = standing_as(UNCHECKED, members);
+    let unchecked = standing_in(UNCHECKED, UNCHECKED, members);
     if 0 < unchecked.count {
         return Verdict::Unchecked {
             member: unchecked.lowest,

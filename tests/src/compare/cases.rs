@@ -4,7 +4,7 @@ use super::Outcome;
 use crate::random::Random;
 use model::guard;
 use model::layout::{Array, Owner};
-use model::stripe::{self, APPLICATION, BLOCK, DATA, UNCHECKED, Verdict};
+use model::stripe::{self, APPLICATION, BLOCK, DATA, Fits, UNCHECKED, Verdict};
 
 /// How many stripes are tried of each number of members.
 const STRIPES_EACH: usize = 1_430;
@@ -186,6 +186,19 @@ impl Case {
         }
     }
 
+    /// Another byte for each field that shall not fit, in a good block of a member. A byte of the data is one for the guard.
+    pub fn spoil_fields(&mut self, member: usize, fits: Fits, random: &mut Random) {
+        let fields = [
+            (fits.guard, 0..APPLICATION.start),
+            (fits.application, APPLICATION),
+            (fits.reference, APPLICATION.end..BLOCK),
+        ];
+        for (_, places) in fields.into_iter().filter(|(fits, _)| !fits) {
+            let place = places.start + random.below(places.len());
+            self.spoil(member, place, random);
+        }
+    }
+
     /// A member written anew from a place on, data and tag.
     pub fn tear(&mut self, member: usize, place: usize, random: &mut Random) -> Verdict {
         self.spoil(member, place, random);
@@ -227,9 +240,26 @@ impl Case {
     }
 }
 
+/// The fields of which some do not fit, by a number from 1 to 7.
+pub fn some_wrong(number: usize) -> Fits {
+    let [guard, application, reference] = [4, 2, 1].map(|bit| number & bit == 0);
+    Fits {
+        guard,
+        application,
+        reference,
+    }
+}
+
+/// A block in which one field does not fit, or several.
+pub fn any_wrong(random: &mut Random) -> Fits {
+    some_wrong(1 + random.below(7))
+}
+
 type Damage = fn(&mut Case, usize, &mut Random);
 
-const DAMAGES: [Damage; 25] = [
+const DAMAGES: [Damage; 27] = [
+    fields,
+    fields,
     flip,
     flip,
     guard_field,
@@ -256,6 +286,11 @@ const DAMAGES: [Damage; 25] = [
     blank,
     noise,
 ];
+
+/// One field, or several at once.
+fn fields(case: &mut Case, member: usize, random: &mut Random) {
+    case.spoil_fields(member, any_wrong(random), random);
+}
 
 /// A few bits of the data.
 fn flip(case: &mut Case, member: usize, random: &mut Random) {

@@ -2,12 +2,12 @@
 
 use super::cases::{self, Case};
 use super::standing::{self, Standing};
-use super::{Outcome, Tally, tally};
+use super::{Outcome, Tally, VERDICTS, faults_name, tally};
 use crate::program::{self, Input};
 use crate::random::Random;
 use model::layout::Array;
 use model::report::{self, HEADER};
-use model::stripe::{self, BLOCK, DATA, Verdict};
+use model::stripe::{self, BLOCK, DATA, Fits, Verdict};
 use std::thread;
 use std::time::Duration;
 
@@ -69,6 +69,14 @@ fn in_pieces(image: &[u8], input: &mut Input, random: &mut Random) -> Outcome<()
     Ok(())
 }
 
+/// The letters of a line, as the tally has them.
+fn letters_name(letters: &str) -> &'static str {
+    let mut names = (1..8).map(|number| faults_name(cases::some_wrong(number)));
+    names
+        .find(|name| *name == letters)
+        .expect("the model's own letters")
+}
+
 /// What a line says, for the tally.
 fn line_name(line: &str) -> &'static str {
     match line.split(' ').collect::<Vec<_>>()[..] {
@@ -76,7 +84,7 @@ fn line_name(line: &str) -> &'static str {
         ["TOTAL", ..] => "total",
         ["REFUSED", number] => tally::refused(number.parse().expect("the model's own number")),
         [_, "CLEAN"] => "clean",
-        [_, "BAD", ..] => "bad",
+        [_, "BAD", _, _, letters] => letters_name(letters),
         [_, "UNCHECKED", ..] => "unchecked",
         [_, "TORN", _] => "torn",
         _ => panic!("the model wrote the line {line}"),
@@ -192,8 +200,32 @@ fn verdicts(members: usize, compared: &mut Compared, random: &mut Random) -> Out
             case.stripe as usize % PLACES.len(),
         );
         case.spoil(member, PLACES[place], random);
-        Verdict::Bad { member, count: 1 }
+        let fits = Fits {
+            guard: PLACES[place] >= 514,
+            application: ![514, 515].contains(&PLACES[place]),
+            reference: PLACES[place] < 516,
+        };
+        Verdict::Bad {
+            member,
+            count: 1,
+            fits,
+        }
     })?;
+    compared.known(
+        "each set of faults",
+        (members, 7 * members),
+        random,
+        |case, random| {
+            let (member, number) = (case.stripe as usize / 7, case.stripe as usize % 7);
+            let fits = cases::some_wrong(1 + number);
+            case.spoil_fields(member, fits, random);
+            Verdict::Bad {
+                member,
+                count: 1,
+                fits,
+            }
+        },
+    )?;
     if members <= 5 {
         let sets = (1 << members) - 1;
         compared.known("each set bad", (members, sets), random, |case, random| {
@@ -352,6 +384,6 @@ pub fn compare(random: &mut Random) -> Outcome<String> {
         compared.images,
         compared
             .lines
-            .of("lines", "clean bad unchecked torn total 1 2 10 11")?
+            .of("lines", &format!("{VERDICTS} total 1 2 10 11"))?
     ))
 }

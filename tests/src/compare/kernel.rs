@@ -6,7 +6,7 @@ use crate::library;
 use crate::random::Random;
 use model::guard::guard;
 use model::layout::{Array, Owner, Place};
-use model::stripe::{APPLICATION, BLOCK, Checked, DATA, Field, UNCHECKED};
+use model::stripe::{APPLICATION, BLOCK, Checked, DATA, Fits, UNCHECKED};
 
 /// One block a line: its number, its data and its tag. The README beside the file tells where they come from.
 const BLOCKS: &str = include_str!("../../vectors/t10-pi.txt");
@@ -59,60 +59,64 @@ fn guards(bytes: &[u8]) -> Outcome<()> {
     ))
 }
 
-/// A block is good at a place, or just this field is its first wrong one; to the library and to the model.
-fn due(array: &Array, place: Place, bytes: &[u8], wrong: Option<Field>) -> Outcome<()> {
+/// Just these fields of a block fit at a place, to the library and to the model.
+fn due(array: &Array, place: Place, bytes: &[u8], fits: Fits) -> Outcome<()> {
     let found = match tag::checked(array, place.stripe, place.member, bytes)? {
-        Ok(Checked::Good) => None,
-        Ok(Checked::Wrong { field, .. }) => Some(field),
+        Ok(Checked::Good(fields) | Checked::Bad(fields)) => fields.fits(),
         Ok(Checked::Unchecked) => return Err(String::from("a block with no mark is unchecked")),
         Err(number) => return Err(format!("a check is refused by {number}")),
     };
-    if found == wrong {
-        return Ok(());
-    }
-    Err(format!(
-        "{place:?} of {array:?}: found wrong {found:?}, due {wrong:?}"
-    ))
+    known(fits, found).map_err(|difference| format!("{place:?} of {array:?}: {difference}"))
 }
 
-/// At every other place of the stripe, of its neighbours and of those a turn of the parity away, and for every other volume, the kind or
-/// the number is wrong.
+/// At every other place of the stripe, of its neighbours and of those a turn of the parity away, the kind or the number is wrong, or both;
+/// for every other volume just that is.
 fn elsewhere(array: &Array, place: Place, bytes: &[u8], seen: &mut Seen) -> Outcome<()> {
     let turn = array.members as i64;
     let near = [-turn, -1, 0, 1, turn].map(|far| place.stripe.checked_add_signed(far));
     for stripe in near.into_iter().flatten() {
         for member in 0..array.members {
             let other = Place { stripe, member };
-            let wrong = match array.owner(stripe, member) {
-                Ok(Owner::Parity { .. }) => Field::Application,
-                Ok(Owner::Data { .. }) if other != place => Field::Reference,
+            let (application, number) = match array.owner(stripe, member) {
+                Ok(Owner::Parity { lowest }) => (false, lowest),
+                Ok(Owner::Data { block }) if other != place => (true, block),
                 _ => continue,
             };
-            due(array, other, bytes, Some(wrong))?;
+            let fits = Fits {
+                guard: true,
+                application,
+                reference: array.place(number) == Ok(place),
+            };
+            due(array, other, bytes, fits)?;
             seen.elsewhere += 1;
         }
     }
     for volume in 1..=u8::MAX {
         let other = Array { volume, ..*array };
-        due(&other, place, bytes, Some(Field::Application))?;
+        let fits = Fits {
+            application: false,
+            ..Fits::ALL
+        };
+        due(&other, place, bytes, fits)?;
         seen.elsewhere += 1;
     }
     Ok(())
 }
 
-/// Each bit of the block changed by itself: its field is wrong, or the guard if it is a bit of the data.
+/// Each bit of the block changed by itself: just its field is wrong, or the guard if it is a bit of the data.
 fn changed(array: &Array, place: Place, bytes: &[u8], seen: &mut Seen) -> Outcome<()> {
     let mut bytes = bytes.to_vec();
     for bit in 0..8 * BLOCK {
-        let wrong = match bit / 8 {
-            0..514 => Field::Guard,
-            514..516 => Field::Application,
-            _ => Field::Reference,
+        let byte = bit / 8;
+        let fits = Fits {
+            guard: byte >= 514,
+            application: !APPLICATION.contains(&byte),
+            reference: byte < 516,
         };
-        bytes[bit / 8] ^= 0x80 >> (bit % 8);
-        due(array, place, &bytes, Some(wrong))
+        bytes[byte] ^= 0x80 >> (bit % 8);
+        due(array, place, &bytes, fits)
             .map_err(|difference| format!("bit {bit} changed: {difference}"))?;
-        bytes[bit / 8] ^= 0x80 >> (bit % 8);
+        bytes[byte] ^= 0x80 >> (bit % 8);
         seen.bits += 1;
     }
     Ok(())
@@ -156,7 +160,7 @@ fn block(number: u64, bytes: &[u8], seen: &mut Seen) -> Outcome<()> {
             member: found.member as usize,
         };
         same(array.place(tagged), Ok(place))?;
-        due(array, place, bytes, None)?;
+        due(array, place, bytes, Fits::ALL)?;
         elsewhere(array, place, bytes, seen)?;
         marked(array, place, bytes)?;
         if turn == seen.blocks % having.len() {

@@ -1,6 +1,7 @@
 //! Comparisons of the library and the report program with the model.
 
 pub mod cases;
+pub mod faults;
 pub mod guard;
 pub mod images;
 pub mod join;
@@ -16,7 +17,7 @@ mod tally;
 
 use crate::library;
 use model::Answer;
-use model::stripe::Verdict;
+use model::stripe::{Fits, Verdict};
 use std::fmt::Debug;
 use tally::Tally;
 
@@ -47,15 +48,40 @@ fn refusal<T>(answer: &Answer<T>) -> u32 {
 fn verdict_numbers(answer: &Answer<Verdict>) -> library::Verdict {
     let (kind, first, count) = match *answer {
         Ok(Verdict::Clean) | Err(_) => (0, 0, 0),
-        Ok(Verdict::Bad { member, count }) => (1, member, count),
+        Ok(Verdict::Bad { member, count, .. }) => (1, member, count),
         Ok(Verdict::Torn { place }) => (2, place, 0),
         Ok(Verdict::Unchecked { member, count }) => (3, member, count),
     };
+    let fits = match *answer {
+        Ok(Verdict::Bad { fits, .. }) => [fits.guard, fits.application, fits.reference],
+        _ => [false; 3],
+    };
+    let [guard_fits, application_fits, reference_fits] = fits.map(u32::from);
     library::Verdict {
         refusal: refusal(answer),
         kind,
         first: first as u32,
         count: count as u32,
+        guard_fits,
+        application_fits,
+        reference_fits,
+    }
+}
+
+/// Every verdict by its name, a bad one for each set of faults.
+const VERDICTS: &str = "clean G-- -A- --R GA- G-R -AR GAR unchecked torn";
+
+/// The wrong fields by their letters, for the tally.
+fn faults_name(fits: Fits) -> &'static str {
+    match (fits.guard, fits.application, fits.reference) {
+        (true, true, true) => "---",
+        (true, true, false) => "--R",
+        (true, false, true) => "-A-",
+        (true, false, false) => "-AR",
+        (false, true, true) => "G--",
+        (false, true, false) => "G-R",
+        (false, false, true) => "GA-",
+        (false, false, false) => "GAR",
     }
 }
 
@@ -63,7 +89,7 @@ fn verdict_numbers(answer: &Answer<Verdict>) -> library::Verdict {
 fn verdict_name(answer: &Answer<Verdict>) -> &'static str {
     match answer {
         Ok(Verdict::Clean) => "clean",
-        Ok(Verdict::Bad { .. }) => "bad",
+        Ok(Verdict::Bad { fits, .. }) => faults_name(*fits),
         Ok(Verdict::Torn { .. }) => "torn",
         Ok(Verdict::Unchecked { .. }) => "unchecked",
         Err(number) => tally::refused(*number),

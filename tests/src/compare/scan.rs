@@ -1,7 +1,7 @@
 //! The scrub in pieces: lists of calls against a history, and single calls from states that no start gives.
 
 use super::cases::{self, Case};
-use super::{Outcome, Tally, done_name, refusal, same, verdict_name, verdict_numbers};
+use super::{Outcome, Tally, VERDICTS, done_name, refusal, same, verdict_name, verdict_numbers};
 use crate::lent::{Lent, between_margins};
 use crate::library::{self, Taken};
 use crate::random::Random;
@@ -244,7 +244,12 @@ fn any_state(random: &mut Random) -> Scan {
         };
         state.register[member] = random.next() as u16;
         if array.place_fits(stripe, member).is_ok() && !random.one_in(wrong) {
-            let tag = stripe::due(&array, stripe, member, state.register[member]);
+            let mut tag = stripe::due(&array, stripe, member, state.register[member]);
+            if random.one_in(wrong) {
+                for place in [0, 3, 7].into_iter().filter(|_| random.one_in(2)) {
+                    tag[place] ^= 1;
+                }
+            }
             state.tag[8 * member..][..8].copy_from_slice(&tag);
         }
         if random.one_in(marked) {
@@ -307,12 +312,12 @@ pub fn compare(random: &mut Random) -> Outcome<String> {
     for _ in 0..STATES {
         states(random, &mut single)?;
     }
-    let listed = calls(&listed, "done", "done 5 7", "clean bad unchecked torn 8")?;
+    let listed = calls(&listed, "done", "done 5 7", &format!("{VERDICTS} 8"))?;
     let single = calls(
         &single,
         "done 1 2 3 6",
         "done 4 5 6 7",
-        "clean bad unchecked torn 4 6 8",
+        &format!("{VERDICTS} 4 6 8"),
     )?;
     Ok(format!(
         "calls alike in {LISTS} lists: {listed}; from any state: {single}"

@@ -1,7 +1,7 @@
 //! The full scrub and the quick scrub of whole stripes.
 
 use super::cases::{self, Case};
-use super::{Outcome, Tally, refusal, same, tally, verdict_name, verdict_numbers};
+use super::{Outcome, Tally, VERDICTS, refusal, same, tally, verdict_name, verdict_numbers};
 use crate::lent::Lent;
 use crate::library;
 use crate::random::Random;
@@ -95,7 +95,7 @@ pub fn compare(random: &mut Random) -> Outcome<String> {
         refusals(random, &mut tally)?;
     }
     let calls = [
-        tally.of("scrub", "clean bad unchecked torn 1 2 3 6")?,
+        tally.of("scrub", &format!("{VERDICTS} 1 2 3 6"))?,
         tally.of("quick scrub", "fits differs 1")?,
         tally.of("clean", "fits")?,
         tally.of("torn within sixteen bits", "differs")?,

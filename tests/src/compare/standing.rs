@@ -1,11 +1,13 @@
 //! How the members of a stripe stand, good, bad or unchecked: what each call has to answer follows from that alone, and is known before the call.
 
 use super::cases::{self, Case, NEAR_MARKS};
-use super::{Outcome, Tally, known, scan, scrub, stripe as jobs, tag, verdict_numbers};
+use super::{Outcome, Tally, VERDICTS, known, scan, scrub, stripe as jobs, tag, verdict_numbers};
 use crate::random::Random;
 use model::Answer;
 use model::layout::{Array, Owner};
-use model::stripe::{self, APPLICATION, BLOCK, Checked, DATA, Read, Source, UNCHECKED, Verdict};
+use model::stripe::{
+    self, APPLICATION, BLOCK, Checked, DATA, Fits, Read, Source, UNCHECKED, Verdict,
+};
 
 /// Up to so many members are tried in every way in which they can stand, more of them in some ways.
 const EVERY: usize = 6;
@@ -57,8 +59,9 @@ pub fn stand(case: &mut Case, standings: &[Standing], tear: bool, random: &mut R
     if tear && !good.is_empty() {
         verdict = case.tear(random.pick(&good), random.below(DATA), random);
     }
-    for member in &bad {
-        case.spoil(*member, random.below(BLOCK), random);
+    let wrong: Vec<Fits> = bad.iter().map(|_| cases::any_wrong(random)).collect();
+    for (member, fits) in bad.iter().zip(&wrong) {
+        case.spoil_fields(*member, *fits, random);
     }
     for member in &unchecked {
         case.mark(*member, random);
@@ -67,6 +70,7 @@ pub fn stand(case: &mut Case, standings: &[Standing], tear: bool, random: &mut R
         ([member, ..], _) => Verdict::Bad {
             member: *member,
             count: bad.len(),
+            fits: wrong[0],
         },
         ([], [member, ..]) => Verdict::Unchecked {
             member: *member,
@@ -100,7 +104,7 @@ fn update(case: &Case, block: u64, random: &mut Random, tally: &mut Tally) -> Ou
 }
 
 /// The full scrub gives this verdict, and a scan too.
-fn verdict(case: &Case, due: Verdict, random: &mut Random, tally: &mut Tally) -> Outcome<()> {
+pub fn verdict(case: &Case, due: Verdict, random: &mut Random, tally: &mut Tally) -> Outcome<()> {
     let Case { array, bytes, .. } = case;
     scrub::scrub(array, case.stripe, bytes, tally)?;
     known(Ok(due), stripe::scrub(array, case.stripe, bytes))?;
@@ -111,7 +115,7 @@ fn verdict(case: &Case, due: Verdict, random: &mut Random, tally: &mut Tally) ->
 /// A member's block is good.
 fn good(case: &Case, member: usize, block: &[u8]) -> Outcome<()> {
     let said = tag::checked(&case.array, case.stripe, member, block)?;
-    known(Ok(Checked::Good), said)
+    known(true, matches!(said, Ok(Checked::Good(_))))
 }
 
 /// Done where it may be, else refused for damage.
@@ -158,8 +162,8 @@ impl Made {
         let Case { array, stripe, .. } = self.case;
         let said = tag::checked(&array, stripe, member, self.block(member))?;
         let standing = said.map(|said| match said {
-            Checked::Good => Good,
-            Checked::Wrong { .. } => Bad,
+            Checked::Good(_) => Good,
+            Checked::Bad(_) => Bad,
             Checked::Unchecked => Unchecked,
         });
         known(Ok(self.standings[member]), standing)
@@ -236,7 +240,7 @@ impl Made {
 }
 
 /// A sealed stripe of so many members.
-fn sealed(members: usize, random: &mut Random) -> Case {
+pub fn sealed(members: usize, random: &mut Random) -> Case {
     let array = Array {
         members,
         ..cases::array(random)
@@ -367,9 +371,15 @@ impl Sentences {
 
     /// Bad goes before unchecked, and is counted alone.
     fn bad_beside(&self, random: &mut Random, tally: &mut Tally) -> Outcome<()> {
-        let case = self.with(&[(self.one, Bad)], Unchecked, random);
-        let (member, count) = (self.one, 1);
-        verdict(&case, Verdict::Bad { member, count }, random, tally)
+        let fits = cases::any_wrong(random);
+        let mut case = self.with(&[(self.one, Good)], Unchecked, random);
+        case.spoil_fields(self.one, fits, random);
+        let due = Verdict::Bad {
+            member: self.one,
+            count: 1,
+            fits,
+        };
+        verdict(&case, due, random, tally)
     }
 
     fn all_unchecked(&self, random: &mut Random, tally: &mut Tally) -> Outcome<()> {
@@ -436,8 +446,8 @@ pub fn compare(random: &mut Random) -> Outcome<String> {
         }
     }
     let calls = [
-        tally.of("scrub", "clean bad unchecked torn")?,
-        tally.of("finish", "clean bad unchecked torn")?,
+        tally.of("scrub", VERDICTS)?,
+        tally.of("finish", VERDICTS)?,
         tally.of("read", "stored rebuilt unchecked 9")?,
         tally.of("rebuild", "done 9")?,
         tally.of("update", "done 9")?,

@@ -1,6 +1,6 @@
 //! The check of one block against the tag due at its place.
 
-use super::{Outcome, Tally, cases, refusal, same, tally};
+use super::{Outcome, Tally, cases, faults_name, refusal, same, tally};
 use crate::lent::Lent;
 use crate::library;
 use crate::random::Random;
@@ -8,33 +8,39 @@ use model::Answer;
 use model::layout::Array;
 use model::stripe::{self, BLOCK, Checked, Field};
 
+fn field_numbers(field: Field) -> library::Field {
+    let Field { found, expected } = field;
+    library::Field {
+        found,
+        expected,
+        fits: u32::from(found == expected),
+    }
+}
+
 fn check_numbers(answer: &Answer<Checked>) -> library::Check {
-    let (field, found, expected) = match *answer {
-        Ok(Checked::Wrong {
-            field,
-            found,
-            expected,
-        }) => (1 + field as u32, found, expected),
-        Ok(Checked::Unchecked) => (4, 0, 0),
-        Ok(Checked::Good) | Err(_) => (0, 0, 0),
+    let (kind, fields) = match *answer {
+        Ok(Checked::Good(fields)) => (0, Some(fields)),
+        Ok(Checked::Bad(fields)) => (1, Some(fields)),
+        Ok(Checked::Unchecked) => (2, None),
+        Err(_) => (0, None),
+    };
+    let [guard, application, reference] = match fields {
+        Some(fields) => [fields.guard, fields.application, fields.reference].map(field_numbers),
+        None => [library::Field::default(); 3],
     };
     library::Check {
         refusal: refusal(answer),
-        field,
-        found,
-        expected,
+        kind,
+        guard,
+        application,
+        reference,
     }
 }
 
 fn check_name(answer: &Answer<Checked>) -> &'static str {
     match answer {
-        Ok(Checked::Good) => "good",
+        Ok(Checked::Good(fields) | Checked::Bad(fields)) => faults_name(fields.fits()),
         Ok(Checked::Unchecked) => "unchecked",
-        Ok(Checked::Wrong { field, .. }) => match field {
-            Field::Guard => "guard",
-            Field::Application => "application",
-            Field::Reference => "reference",
-        },
         Err(number) => tally::refused(*number),
     }
 }
@@ -92,7 +98,7 @@ pub fn compare(random: &mut Random) -> Outcome<String> {
     }
     let calls = tally.of(
         "check",
-        "good guard application reference unchecked 1 2 3 5 6",
+        "--- G-- -A- --R GA- G-R -AR GAR unchecked 1 2 3 5 6",
     )?;
     Ok(format!(
         "calls alike on {stripes} stripes and at refusals: {calls}"

@@ -2,7 +2,7 @@
 
 use super::Answer;
 use super::layout::Array;
-use super::stripe::{self, BLOCK, Verdict};
+use super::stripe::{self, BLOCK, Fits, Verdict};
 
 pub const HEADER: usize = 9;
 
@@ -63,9 +63,13 @@ impl Report {
                 self.clean += 1;
                 format!("{stripe} CLEAN\n")
             }
-            Verdict::Bad { member, count } => {
+            Verdict::Bad {
+                member,
+                count,
+                fits,
+            } => {
                 self.bad += 1;
-                format!("{stripe} BAD {member} {count}\n")
+                format!("{stripe} BAD {member} {count} {}\n", letters(fits))
             }
             Verdict::Unchecked { member, count } => {
                 self.unchecked += 1;
@@ -89,6 +93,19 @@ impl Report {
         let stripes = array.stripes;
         format!("TOTAL {stripes} clean {clean} bad {bad} unchecked {unchecked} torn {torn}\n")
     }
+}
+
+/// A letter for each field, and a dash for one that fits.
+pub fn letters(fits: Fits) -> String {
+    let fields = [
+        ('G', fits.guard),
+        ('A', fits.application),
+        ('R', fits.reference),
+    ];
+    fields
+        .map(|(letter, fits)| if fits { '-' } else { letter })
+        .iter()
+        .collect()
 }
 
 fn refused_line(number: u32) -> String {

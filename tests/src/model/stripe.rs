@@ -12,22 +12,58 @@ pub const BLOCK: usize = 520;
 pub const APPLICATION: Range<usize> = 514..516;
 pub const UNCHECKED: [u8; 2] = [0xFF; 2];
 
+/// A field of a tag: what stands in the block, and what is due there.
 #[derive(Clone, Copy, Debug, PartialEq)]
-pub enum Field {
-    Guard,
-    Application,
-    Reference,
+pub struct Field {
+    pub found: u64,
+    pub expected: u64,
+}
+
+impl Field {
+    pub fn fits(&self) -> bool {
+        self.found == self.expected
+    }
 }
 
 #[derive(Clone, Copy, Debug, PartialEq)]
+pub struct Fields {
+    pub guard: Field,
+    pub application: Field,
+    pub reference: Field,
+}
+
+impl Fields {
+    pub fn fits(&self) -> Fits {
+        Fits {
+            guard: self.guard.fits(),
+            application: self.application.fits(),
+            reference: self.reference.fits(),
+        }
+    }
+}
+
+/// Which fields of a block fit.
+#[derive(Clone, Copy, Debug, PartialEq)]
+pub struct Fits {
+    pub guard: bool,
+    pub application: bool,
+    pub reference: bool,
+}
+
+impl Fits {
+    pub const ALL: Fits = Fits {
+        guard: true,
+        application: true,
+        reference: true,
+    };
+}
+
+/// What is said of a block: all its fields, unless nobody is to check it.
+#[derive(Clone, Copy, Debug, PartialEq)]
 pub enum Checked {
-    Good,
+    Good(Fields),
+    Bad(Fields),
     Unchecked,
-    Wrong {
-        field: Field,
-        found: u32,
-        expected: u32,
-    },
 }
 
 /// Where the data of a read come from: a good block, the other members, or a block that nobody checked.
@@ -47,9 +83,19 @@ pub struct Read {
 #[derive(Clone, Copy, Debug, PartialEq)]
 pub enum Verdict {
     Clean,
-    Bad { member: usize, count: usize },
-    Unchecked { member: usize, count: usize },
-    Torn { place: usize },
+    /// The lowest bad member, how many they are, and which fields of the lowest fit.
+    Bad {
+        member: usize,
+        count: usize,
+        fits: Fits,
+    },
+    Unchecked {
+        member: usize,
+        count: usize,
+    },
+    Torn {
+        place: usize,
+    },
 }
 
 /// The bytes of a member in a stripe.
@@ -94,8 +140,8 @@ pub fn tagged(array: &Array, stripe: u64, member: usize, data: &[u8]) -> Vec<u8>
     [data, &tag[..]].concat()
 }
 
-fn number(bytes: &[u8]) -> u32 {
-    bytes.iter().fold(0, |n, byte| n << 8 | u32::from(*byte))
+fn number(bytes: &[u8]) -> u64 {
+    bytes.iter().fold(0, |n, byte| n << 8 | u64::from(*byte))
 }
 
 /// What is said of a block with the tag `tag`, where `due` is due. The mark in the application tag goes first, whatever the rest is.
@@ -103,22 +149,20 @@ pub fn told(tag: &[u8], due: &[u8]) -> Checked {
     if tag[2..4] == UNCHECKED {
         return Checked::Unchecked;
     }
-    let fields = [
-        (Field::Guard, 0..2),
-        (Field::Application, 2..4),
-        (Field::Reference, 4..8),
-    ];
-    for (field, bytes) in fields {
-        let (found, expected) = (number(&tag[bytes.clone()]), number(&due[bytes]));
-        if found != expected {
-            return Checked::Wrong {
-                field,
-                found,
-                expected,
-            };
-        }
+    let field = |bytes: Range<usize>| Field {
+        found: number(&tag[bytes.clone()]),
+        expected: number(&due[bytes]),
+    };
+    let fields = Fields {
+        guard: field(0..2),
+        application: field(2..4),
+        reference: field(4..8),
+    };
+    if fields.fits() == Fits::ALL {
+        Checked::Good(fields)
+    } else {
+        Checked::Bad(fields)
     }
-    Checked::Good
 }
 
 /// What is said of a block at a place.
@@ -128,7 +172,8 @@ fn told_of(array: &Array, stripe: u64, member: usize, block: &[u8]) -> Checked {
 }
 
 fn is_good(array: &Array, stripe: u64, bytes: &[u8], member: usize) -> bool {
-    told_of(array, stripe, member, &bytes[span(member)]) == Checked::Good
+    let told = told_of(array, stripe, member, &bytes[span(member)]);
+    matches!(told, Checked::Good(_))
 }
 
 fn others(array: &Array, member: usize) -> impl Iterator<Item = usize> + use<> {
@@ -176,9 +221,9 @@ pub fn read(array: &Array, block: u64, bytes: &[u8], out: &[u8]) -> Answer<Read>
     sized(out, DATA)?;
     let own = &bytes[span(place.member)];
     let (source, data) = match told_of(array, place.stripe, place.member, own) {
-        Checked::Good => (Source::Stored, own[..DATA].to_vec()),
+        Checked::Good(_) => (Source::Stored, own[..DATA].to_vec()),
         Checked::Unchecked => (Source::Unchecked, own[..DATA].to_vec()),
-        Checked::Wrong { .. } => {
+        Checked::Bad(_) => {
             let data = from_others(array, place.stripe, bytes, place.member)?;
             (Source::Rebuilt, data)
         }
@@ -219,12 +264,22 @@ pub fn update(array: &Array, block: u64, data: &[u8], bytes: &[u8]) -> Answer<Ve
 
 /// The verdict on members of which this is said, and on what their data combine to: bad ones go first, then unchecked ones.
 pub fn verdict(members: &[Checked], sum: &[u8]) -> Verdict {
-    let bad = numbers(members, |told| matches!(told, Checked::Wrong { .. }));
-    if let [member, ..] = bad[..] {
-        let count = bad.len();
-        return Verdict::Bad { member, count };
+    let (mut bad, mut unchecked) = (Vec::new(), Vec::new());
+    for (member, told) in members.iter().enumerate() {
+        match told {
+            Checked::Good(_) => {}
+            Checked::Bad(fields) => bad.push((member, fields.fits())),
+            Checked::Unchecked => unchecked.push(member),
+        }
     }
-    let unchecked = numbers(members, |told| *told == Checked::Unchecked);
+    if let [(member, fits), ..] = bad[..] {
+        let count = bad.len();
+        return Verdict::Bad {
+            member,
+            count,
+            fits,
+        };
+    }
     if let [member, ..] = unchecked[..] {
         let count = unchecked.len();
         return Verdict::Unchecked { member, count };
@@ -233,13 +288,6 @@ pub fn verdict(members: &[Checked], sum: &[u8]) -> Verdict {
         Some(place) => Verdict::Torn { place },
         None => Verdict::Clean,
     }
-}
-
-/// The members of which such a thing is said.
-fn numbers(members: &[Checked], such: impl Fn(&Checked) -> bool) -> Vec<usize> {
-    (0..members.len())
-        .filter(|member| such(&members[*member]))
-        .collect()
 }
 
 pub fn scrub(array: &Array, stripe: u64, bytes: &[u8]) -> Answer<Verdict> {

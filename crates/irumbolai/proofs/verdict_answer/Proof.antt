@@ -9,6 +9,9 @@ enum-known-scrubbed c = search needs
 cast-refusal : tie.Need-cast-refusal
 cast-refusal c = search needs
 
+no-fault-requires : tie.Need-no-fault-requires
+no-fault-requires c κs = search needs
+
 enum-known-scrubbed-2 : tie.Need-enum-known-scrubbed-2
 enum-known-scrubbed-2 c = search needs
 
@@ -19,7 +22,7 @@ found-answer-requires c κs =
     (rw given at (small .0), rw given at (small .1))
 
 returns : tie.Need-returns
-returns c = rw (c .before .scrubbed .given .1)
+returns c = rw (c .before .before .scrubbed .given .1) (c .no-fault .ensures)
 
 returns-2 : tie.Need-returns-2
 returns-2 c = rw (c .before .before .scrubbed2 .given .1) (c .found-answer .ensures)
@@ -30,6 +33,7 @@ verdict-answer-spec =
     (tie.spec
     enum-known-scrubbed
     cast-refusal
+    no-fault-requires
     enum-known-scrubbed-2
     found-answer-requires
     returns

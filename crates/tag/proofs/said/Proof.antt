@@ -13,13 +13,8 @@ is-exempt-requires c κs = search needs
 returns : tie.Need-returns
 returns c = ap (λ (l : List ℕ). 1 ∷ 0 ∷ l) (sym (told-exempt _ _ _ (sym (c .before .is-exempt .ensures) ∙ c .if1 .taken)))
 
-first-wrong-requires : tie.Need-first-wrong-requires
-first-wrong-requires c κs = search needs
-
 returns-2 : tie.Need-returns-2
-returns-2 c =
-    let x = c .before in
-    c .first-wrong .ensures ∙ ap (λ (l : List ℕ). 1 ∷ 0 ∷ l) (sym (told-checked _ _ _ (sym (x .before .is-exempt .ensures) ∙ x .if1 .left)))
+returns-2 c = ap (λ (l : List ℕ). 1 ∷ 0 ∷ l) (sym (told-checked _ _ _ (sym (c .before .is-exempt .ensures) ∙ c .if1 .left)))
 
 pub said-spec : {M : Type 1} → statement M
-said-spec = tie.close (tie.spec is-exempt-requires returns first-wrong-requires returns-2)
+said-spec = tie.close (tie.spec is-exempt-requires returns returns-2)

@@ -1,8 +1,10 @@
 -- `irumbolai_finish` answers what `finish` does. Assumes nothing.
 use mathlib.Core.Path.{sym, ap, _∙_, subst}
+use mathlib.Core.List.{List}
+use Prim.Native.Nat.{ℕ}
 use native.Mathlib.Omega.{arith}
 use borrow.Author.Needs.{needs}
-use Rattle.irumbolai.specs.Answers.{unflagged}
+use Rattle.irumbolai.specs.Answers.{unflagged, spread}
 use Rattle.irumbolai.proofs.Verdicts.{Small, finish-small}
 use Rattle.irumbolai.proofs.scans.irumbolai_finish.Statement.{statement}
 use Rattle.irumbolai.proofs.scans.irumbolai_finish.Tie as tie
@@ -21,7 +23,7 @@ verdict-answer-requires c κs =
 returns : tie.Need-returns
 returns c =
     let told = rw (c .before .before .scan-of .ensures) at (c .before .finish .ensures) in
-    c .verdict-answer .ensures ∙ ap unflagged told
+    c .verdict-answer .ensures ∙ ap (λ (l : List ℕ). spread (unflagged l)) told
 
 pub irumbolai-finish-spec : {M : Type 1} → statement M
 irumbolai-finish-spec =

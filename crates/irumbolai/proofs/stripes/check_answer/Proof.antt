@@ -1,5 +1,4 @@
 -- `check_answer` sets out what it is handed, case by case. Assumes nothing.
-use native.Mathlib.Omega.{arith}
 use borrow.Author.Needs.{needs}
 use Rattle.irumbolai.proofs.stripes.check_answer.Statement.{statement}
 use Rattle.irumbolai.proofs.stripes.check_answer.Tie as tie
@@ -10,56 +9,29 @@ enum-known-checked c = search needs
 cast-refusal : tie.Need-cast-refusal
 cast-refusal c = search needs
 
+no-fields-requires : tie.Need-no-fields-requires
+no-fields-requires c κs = search needs
+
 enum-told : tie.Need-enum-told
 enum-told c = search needs
+
+no-fields-requires-2 : tie.Need-no-fields-requires-2
+no-fields-requires-2 c κs = search needs
 
 enum-known-checked-2 : tie.Need-enum-known-checked-2
 enum-known-checked-2 c = search needs
 
-cast-found : tie.Need-cast-found
-cast-found c = let h = rw (c .before .checked2 .given .1) at (c .before .before .before .pre .0) in omega arith
-
-cast-expected : tie.Need-cast-expected
-cast-expected c = let h = rw (c .before .checked2 .given .1) at (c .before .before .before .pre .1) in omega arith
-
-enum-known-checked-3 : tie.Need-enum-known-checked-3
-enum-known-checked-3 c = search needs
-
-cast-found-2 : tie.Need-cast-found-2
-cast-found-2 c = let h = rw (c .before .checked3 .given .1) at (c .before .before .before .pre .0) in omega arith
-
-cast-expected-2 : tie.Need-cast-expected-2
-cast-expected-2 c = let h = rw (c .before .checked3 .given .1) at (c .before .before .before .pre .1) in omega arith
-
-enum-known-checked-4 : tie.Need-enum-known-checked-4
-enum-known-checked-4 c = search needs
-
-cast-found-3 : tie.Need-cast-found-3
-cast-found-3 c = let h = rw (c .before .checked4 .given .1) at (c .before .before .before .pre .0) in omega arith
-
-cast-expected-3 : tie.Need-cast-expected-3
-cast-expected-3 c = let h = rw (c .before .checked4 .given .1) at (c .before .before .before .pre .1) in omega arith
-
-enum-told-2 : tie.Need-enum-told-2
-enum-told-2 c = search needs
+told-answer-requires : tie.Need-told-answer-requires
+told-answer-requires c κs = search needs
 
 returns : tie.Need-returns
-returns c = rw (c .before .checked .given .1)
+returns c = rw (c .before .before .checked .given .1) (c .no-fields .ensures)
 
 returns-2 : tie.Need-returns-2
-returns-2 c = rw (c .enum-told .given .1)
+returns-2 c = rw (c .before .enum-told .given .1) (c .no-fields2 .ensures)
 
 returns-3 : tie.Need-returns-3
-returns-3 c = rw (c .before .checked2 .given .1)
-
-returns-4 : tie.Need-returns-4
-returns-4 c = rw (c .before .checked3 .given .1)
-
-returns-5 : tie.Need-returns-5
-returns-5 c = rw (c .before .checked4 .given .1)
-
-returns-6 : tie.Need-returns-6
-returns-6 c = rw (c .enum-told2 .given .1)
+returns-3 c = rw (c .before .before .checked2 .given .1) (c .told-answer .ensures)
 
 pub check-answer-spec : {M : Type 1} → statement M
 check-answer-spec =
@@ -67,20 +39,11 @@ check-answer-spec =
     (tie.spec
     enum-known-checked
     cast-refusal
+    no-fields-requires
     enum-told
+    no-fields-requires-2
     enum-known-checked-2
-    cast-found
-    cast-expected
-    enum-known-checked-3
-    cast-found-2
-    cast-expected-2
-    enum-known-checked-4
-    cast-found-3
-    cast-expected-3
-    enum-told-2
+    told-answer-requires
     returns
     returns-2
-    returns-3
-    returns-4
-    returns-5
-    returns-6)
+    returns-3)

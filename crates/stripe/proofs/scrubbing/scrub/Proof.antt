@@ -22,7 +22,7 @@ returns : tie.Need-returns
 returns c =
     let a = c .before .before .before .args in
     let told = c .before .scrub-refusal .ensures in
-    ap (λ (n : ℕ). 0 ∷ n ∷ 0 ∷ 0 ∷ 0 ∷ []) told ∙ sym (scrub-refused (a .array) (a .stripe) (a .bytes .now) (λ e. c .if1 .taken (told ∙ e)))
+    ap (λ (n : ℕ). 0 ∷ n ∷ 0 ∷ 0 ∷ 0 ∷ 0 ∷ []) told ∙ sym (scrub-refused (a .array) (a .stripe) (a .bytes .now) (λ e. c .if1 .taken (told ∙ e)))
 
 standings-requires : tie.Need-standings-requires
 standings-requires c κs = search needs

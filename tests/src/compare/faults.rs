@@ -1,0 +1,283 @@
+//! All faults of a block at once: which fields fit, and what stands in them, is known from what was done to the block.
+
+use super::cases::{self, Case};
+use super::{Outcome, Tally, known, standing, tag};
+use crate::random::Random;
+use model::guard::guard;
+use model::layout::{Array, Owner};
+use model::stripe::{self, Checked, DATA, Field, Fields, Fits, Verdict};
+
+/// How often the cases are tried for each number of members.
+const TIMES: usize = 20;
+
+const GUARD: Fits = Fits {
+    guard: false,
+    ..Fits::ALL
+};
+const APPLICATION: Fits = Fits {
+    application: false,
+    ..Fits::ALL
+};
+const REFERENCE: Fits = Fits {
+    reference: false,
+    ..Fits::ALL
+};
+
+/// The block of a member: what stands in its fields, and what is due there.
+fn fields(case: &Case, member: usize) -> Fields {
+    let block = &case.bytes[stripe::span(member)];
+    let (kind, number) = match case.array.row(case.stripe)[member] {
+        Owner::Parity { lowest } => (0x8000, lowest),
+        Owner::Data { block } => (0x0000, block),
+    };
+    let word = |at: usize| u64::from(u16::from_be_bytes([block[at], block[at + 1]]));
+    Fields {
+        guard: Field {
+            found: word(512),
+            expected: u64::from(guard(&block[..DATA])),
+        },
+        application: Field {
+            found: word(514),
+            expected: kind + u64::from(case.array.volume),
+        },
+        reference: Field {
+            found: word(516) << 16 | word(518),
+            expected: number,
+        },
+    }
+}
+
+/// The check of a member's block tells all its fields, and just these fit.
+fn told(case: &Case, member: usize, fits: Fits) -> Outcome<()> {
+    let fields = fields(case, member);
+    known(fits, fields.fits())?;
+    let due = if fits == Fits::ALL {
+        Checked::Good(fields)
+    } else {
+        Checked::Bad(fields)
+    };
+    let block = &case.bytes[stripe::span(member)];
+    known(
+        Ok(due),
+        tag::checked(&case.array, case.stripe, member, block)?,
+    )
+}
+
+/// A sealed stripe, two of its members with data, and the one with the parity.
+struct Faults<'a> {
+    sealed: Case,
+    one: usize,
+    other: usize,
+    parity: usize,
+    tally: &'a mut Tally,
+}
+
+impl<'a> Faults<'a> {
+    fn on(sealed: Case, random: &mut Random, tally: &'a mut Tally) -> Self {
+        let Case { array, stripe, .. } = sealed;
+        let parity = array.parity_member(stripe);
+        let data: Vec<usize> = (0..array.members).filter(|one| *one != parity).collect();
+        let first = random.below(data.len());
+        let second = (first + 1 + random.below(data.len() - 1)) % data.len();
+        Faults {
+            sealed,
+            one: data[first],
+            other: data[second],
+            parity,
+            tally,
+        }
+    }
+
+    /// Of these members just these fields fit, and all others are good: so the checks say, the scrub and a scan.
+    fn just(&mut self, case: &Case, bad: &[(usize, Fits)], random: &mut Random) -> Outcome<()> {
+        for member in 0..case.array.members {
+            let of = bad.iter().find(|(bad, _)| *bad == member);
+            told(case, member, of.map_or(Fits::ALL, |(_, fits)| *fits))?;
+        }
+        self.lowest(case, bad, random)
+    }
+
+    fn lowest(&mut self, case: &Case, bad: &[(usize, Fits)], random: &mut Random) -> Outcome<()> {
+        let lowest = bad.iter().min_by_key(|(member, _)| *member);
+        let (member, fits) = *lowest.expect("a member is bad");
+        let due = Verdict::Bad {
+            member,
+            count: bad.len(),
+            fits,
+        };
+        standing::verdict(case, due, random, self.tally)
+    }
+
+    fn all_good(&self) -> Outcome<()> {
+        (0..self.sealed.array.members).try_for_each(|member| told(&self.sealed, member, Fits::ALL))
+    }
+
+    /// Data changed within sixteen successive bits: the guard as stored is found, that of the new data expected.
+    fn changed_data(&mut self, member: usize, random: &mut Random) -> Outcome<()> {
+        let mut case = self.sealed.clone();
+        let (from, bits) = (random.below(8 * DATA - 15), random.between(1, 65_535));
+        for place in (0..16).filter(|place| bits >> place & 1 == 1) {
+            let bit = from + place;
+            case.block(member)[bit / 8] ^= 0x80 >> (bit % 8);
+        }
+        let [before, after] = [&self.sealed, &case].map(|case| fields(case, member).guard);
+        known(
+            (before.found, true),
+            (after.found, after.expected != after.found),
+        )?;
+        self.just(&case, &[(member, GUARD)], random)
+    }
+
+    /// The block of one data member laid on another, as it is.
+    fn on_other_member(&mut self, random: &mut Random) -> Outcome<()> {
+        let mut case = self.sealed.clone();
+        let block = case.block(self.one).to_vec();
+        case.block(self.other).copy_from_slice(&block);
+        self.just(&case, &[(self.other, REFERENCE)], random)
+    }
+
+    /// The block that belongs on the same member some turns of the parity further on: data to data, parity to parity.
+    fn of_other_stripe(&mut self, member: usize, random: &mut Random) -> Outcome<()> {
+        let mut case = self.sealed.clone();
+        let stripe = case.stripe + case.array.members as u64 * random.between(1, 3);
+        let data = random.bytes(DATA);
+        let block = stripe::tagged(&case.array, stripe, member, &data);
+        case.block(member).copy_from_slice(&block);
+        self.just(&case, &[(member, REFERENCE)], random)
+    }
+
+    /// The block of the same place in another volume.
+    fn of_other_volume(&mut self, member: usize, random: &mut Random) -> Outcome<()> {
+        let mut case = self.sealed.clone();
+        let other = Array {
+            volume: case.array.volume ^ random.between(1, 255) as u8,
+            ..case.array
+        };
+        let data = case.block(member)[..DATA].to_vec();
+        let block = stripe::tagged(&other, case.stripe, member, &data);
+        case.block(member).copy_from_slice(&block);
+        self.just(&case, &[(member, APPLICATION)], random)
+    }
+
+    /// Parity and data exchanged: guards fit, kinds do not, and numbers only where the block is the lowest of its stripe.
+    fn exchanged(&mut self, member: usize, random: &mut Random) -> Outcome<()> {
+        let mut case = self.sealed.clone();
+        let parity = self.parity;
+        let blocks = [member, parity].map(|member| case.block(member).to_vec());
+        case.block(member).copy_from_slice(&blocks[1]);
+        case.block(parity).copy_from_slice(&blocks[0]);
+        let fits = Fits {
+            reference: member == if parity == 0 { 1 } else { 0 },
+            ..APPLICATION
+        };
+        self.just(&case, &[(member, fits), (parity, fits)], random)
+    }
+
+    /// Each set of faults by itself.
+    fn each_set(&mut self, member: usize, random: &mut Random) -> Outcome<()> {
+        for number in 1..8 {
+            let mut case = self.sealed.clone();
+            let fits = cases::some_wrong(number);
+            case.spoil_fields(member, fits, random);
+            self.just(&case, &[(member, fits)], random)?;
+        }
+        Ok(())
+    }
+
+    /// Two bad members whose faults are not the same.
+    fn two_bad(&mut self, random: &mut Random) -> Outcome<()> {
+        let first = random.below(7);
+        let second = (first + 1 + random.below(6)) % 7;
+        let bad = [(self.one, first), (self.other, second)];
+        let bad = bad.map(|(member, number)| (member, cases::some_wrong(1 + number)));
+        let mut case = self.sealed.clone();
+        for (member, fits) in bad {
+            case.spoil_fields(member, fits, random);
+        }
+        self.just(&case, &bad, random)
+    }
+
+    /// An unchecked member below a bad one.
+    fn below_unchecked(&mut self, random: &mut Random) -> Outcome<()> {
+        let [low, high] = [self.one.min(self.other), self.one.max(self.other)];
+        let mut case = self.sealed.clone();
+        let fits = cases::any_wrong(random);
+        case.mark(low, random);
+        case.spoil_fields(high, fits, random);
+        told(&case, high, fits)?;
+        let block = &case.bytes[stripe::span(low)];
+        let said = tag::checked(&case.array, case.stripe, low, block)?;
+        known(Ok(Checked::Unchecked), said)?;
+        self.lowest(&case, &[(high, fits)], random)
+    }
+
+    /// A bad member of a torn stripe, all of whose other members are good.
+    fn in_torn(&mut self, random: &mut Random) -> Outcome<()> {
+        let mut case = self.sealed.clone();
+        let fits = cases::any_wrong(random);
+        case.tear(self.other, random.below(DATA), random);
+        case.spoil_fields(self.one, fits, random);
+        self.just(&case, &[(self.one, fits)], random)
+    }
+
+    /// Every member wiped with zeros, whose guard is right.
+    fn wiped(&mut self, random: &mut Random) -> Outcome<()> {
+        let mut case = self.sealed.clone();
+        case.bytes.fill(0);
+        let bad: Vec<(usize, Fits)> = (0..case.array.members)
+            .map(|member| (member, fields(&case, member).fits()))
+            .filter(|(_, fits)| *fits != Fits::ALL)
+            .collect();
+        known(true, bad.iter().all(|(_, fits)| fits.guard))?;
+        self.just(&case, &bad, random)
+    }
+}
+
+/// The cases, each by its name; and how many they are.
+#[rustfmt::skip]
+fn cases_of(members: usize, random: &mut Random, tally: &mut Tally) -> Outcome<usize> {
+    let mut on = Faults::on(standing::sealed(members, random), random, tally);
+    let Faults { one, other, parity, .. } = on;
+    let tried = [
+        ("all good", on.all_good()),
+        ("data changed within sixteen bits", on.changed_data(one, random)),
+        ("parity changed within sixteen bits", on.changed_data(parity, random)),
+        ("data on another member", on.on_other_member(random)),
+        ("data of another stripe", on.of_other_stripe(one, random)),
+        ("parity of another stripe", on.of_other_stripe(parity, random)),
+        ("data of another volume", on.of_other_volume(one, random)),
+        ("parity of another volume", on.of_other_volume(parity, random)),
+        ("parity and data exchanged", on.exchanged(one, random)),
+        ("parity and other data exchanged", on.exchanged(other, random)),
+        ("each set of faults in data", on.each_set(one, random)),
+        ("each set of faults in parity", on.each_set(parity, random)),
+        ("two bad with different faults", on.two_bad(random)),
+        ("unchecked below bad", on.below_unchecked(random)),
+        ("bad in a torn stripe", on.in_torn(random)),
+        ("wiped with zeros", on.wiped(random)),
+    ];
+    for (name, outcome) in &tried {
+        if let Err(difference) = outcome {
+            return Err(format!("{name}, {members} members: {difference}"));
+        }
+    }
+    Ok(tried.len())
+}
+
+pub fn compare(random: &mut Random) -> Outcome<String> {
+    let mut tally = Tally::default();
+    let mut tried = 0;
+    for members in 3..=16 {
+        for _ in 0..TIMES {
+            tried = cases_of(members, random, &mut tally)?;
+        }
+    }
+    let calls = [
+        tally.of("scrub", "G-- -A- --R GA- G-R -AR GAR")?,
+        tally.of("finish", "G-- -A- --R GA- G-R -AR GAR")?,
+    ];
+    Ok(format!(
+        "known beforehand in {tried} named cases, all fields of every block: {}",
+        calls.join(", ")
+    ))
+}
