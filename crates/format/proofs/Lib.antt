@@ -1,4 +1,6 @@
 pub mod Sizes
 pub mod Combined
 pub mod Laws
+pub mod Past
+pub mod Figures
 pub mod Ranges

@@ -1,3 +1,4 @@
 pub mod Formats
+pub mod Packed
 pub mod Methods
 pub mod Positions

@@ -1,12 +1,15 @@
--- The formats by their method numbers; today there is one. Assumes nothing.
+-- The formats by their method numbers. Assumes nothing.
 use mathlib.Core.Path.{refl}
-use Prim.Native.Nat.{ℕ, _^_}
+use mathlib.Core.Bool.{cond}
+use Prim.Native.Nat.{ℕ, _%_, _^_}
 use native.Mathlib.Omega.{arith}
-use lib.Dec.{lit<}
+use lib.Dec.{eqb, lit<}
 use Rattle.crc.specs.Guard.{run}
 use Rattle.crc.proofs.Joined.{run-nil, run-joined}
 use Rattle.crc.proofs.Noticed.{run-lt}
+use Rattle.checksum.specs.Checksum.{first}
 use Rattle.format.specs.Formats.{Format}
+use Rattle.format.specs.Packed.{packedAdvance, packed-nil, packed-joined, packed-small}
 
 -- method 1: 512 bytes of data, 8 of tag, CRC-16/T10-DIF
 abbrev pub t10 : Format
@@ -35,6 +38,33 @@ t10 =
       scaled = refl;
     }
 
--- shut, so that no length is a number above this crate
+-- method 2: the same lengths, the rotating checksum
+abbrev pub checksummed : Format
+checksummed =
+    record {
+      dataLength = 512;
+      tagLength = 8;
+      blockLength = 520;
+      quarter = 2;
+      scale = 1;
+      limit = 2 ^ 24;
+      start = first;
+      advance = packedAdvance;
+      guardOf = λ r. r % 65536;
+      advance-nil = packed-nil;
+      advance-joined = packed-joined;
+      start-small = lit< tt;
+      advance-small = packed-small;
+      guard-small = λ bytes. omega arith;
+      block-parts = refl;
+      tag-quarters = refl;
+      data-most = omega arith;
+      data-rows = refl;
+      quarter-least = omega arith;
+      quarter-most = omega arith;
+      scaled = refl;
+    }
+
+-- shut, so that no length is a number above this crate; any other number means method 1
 unfoldable pub formatOf : ℕ → Format
-formatOf method = t10
+formatOf method = cond (eqb method 2) checksummed t10

@@ -1,5 +1,6 @@
-// The formats of a block by their method numbers: their lengths, where a byte of a block goes, and their guards. Today there is one, and
-// any number means it.
+// The formats of a block by their method numbers: their lengths, where a byte of a block goes, and their guards. Method 1 has the CRC, method 2 the
+// checksum; any other number means method 1.
+mod packing;
 mod positions;
 
 pub use positions::data_room;
@@ -9,9 +10,14 @@ ghost use mathlib.Core.Path.{_≡_};
 ghost use Prim.Native.Nat.{_*_, _/_};
 ghost use Rattle.format.specs.Formats.{guard, spare, guardsOf};
 ghost use Rattle.format.specs.Methods.{formatOf};
+use packing::packed;
+use packing::unpacked;
 
 // The method of every array, as long as its numbers name none.
 pub const METHOD: u8 = 1;
+
+// The method whose guard is the checksum.
+const CHECKSUM: u8 = 2;
 
 // The most bytes of data, and of the tags of sixteen blocks, that any format has: room for those of each.
 pub const MOST_DATA: usize = 512;
@@ -70,6 +76,9 @@ pub fn unscaled(method: u8, application: u64) -> u64
 pub fn blank_if_odd(method: u8, count: usize) -> u32
     ensures { λ r. ⌜ r ≡ spare (formatOf method) count ⌝ }
 {
+    if method == CHECKSUM {
+        return 0xFFFF * (count % 2) as u32;
+    }
     0
 }
 
@@ -77,6 +86,9 @@ pub fn blank_if_odd(method: u8, count: usize) -> u32
 pub fn guard(method: u8, bytes: &[u8]) -> u32
     ensures { λ r. ⌜ r ≡ guard (formatOf method) (now (bytes .entry)) ⌝ }
 {
+    if method == CHECKSUM {
+        return checksum::checksum(bytes) as u32;
+    }
     fold::guard(bytes) as u32
 }
 
@@ -97,26 +109,39 @@ fn widened(narrow: [u16; 16]) -> [u32; 16]
 pub fn guards(method: u8, bytes: &[u8], stride: usize) -> [u32; 16]
     ensures { λ r. ⌜ r ≡ guardsOf (formatOf method) 16 stride (now (bytes .entry)) ⌝ }
 {
+    if method == CHECKSUM {
+        return widened(checksum::checksums(bytes, stride));
+    }
     widened(fold::guards(bytes, stride))
 }
 
 // Where a register starts.
-pub fn start(method: u8) -> u16
+pub fn start(method: u8) -> u32
     ensures { λ r. ⌜ r ≡ formatOf method .start ⌝ }
 {
-    0
+    if method == CHECKSUM { 0xFFFF } else { 0 }
 }
 
-// A register after bytes of data from a position on.
-pub fn advance(method: u8, at: usize, register: u16, bytes: &[u8]) -> u16
+// A register after bytes of data from a position on. Where there are none it stays, also one that is past the method's limit.
+pub fn advance(method: u8, at: usize, register: u32, bytes: &[u8]) -> u32
     ensures { λ r. ⌜ r ≡ formatOf method .advance at register (now (bytes .entry)) ⌝ }
 {
-    fold::run(register, bytes)
+    if bytes.len() == 0 {
+        return register;
+    }
+    if method == CHECKSUM {
+        return packed(checksum::advance(at, unpacked(register), bytes));
+    }
+    fold::run((register % 65536) as u16, bytes) as u32
 }
 
 // The guard that a register gives.
-pub fn guard_of(method: u8, register: u16) -> u32
+pub fn guard_of(method: u8, register: u32) -> u32
     ensures { λ r. ⌜ r ≡ formatOf method .guardOf register ⌝ }
 {
-    register as u32
+    if method == CHECKSUM {
+        register % 65536
+    } else {
+        register
+    }
 }

@@ -59,7 +59,7 @@ fn standing(array: Array, stripe: u64, member: usize, register: u16, tags: &[u8]
 {
     let method = METHOD;
     let at = tag_at(method, member);
-    let guard = format::guard_of(method, register);
+    let guard = format::guard_of(method, register as u32);
     let expected = tag::due(array, stripe, member, guard);
     tag::standing(method, tag::found(method, tags, at), expected)
 }

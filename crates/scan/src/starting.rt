@@ -37,7 +37,7 @@ fn clear(work: &mut [u8])
 fn empty(array: Array, stripe: u64) -> Scan
     ensures { λ r. ⌜ r ≡ emptyScan array stripe ⌝ }
 {
-    let first = format::start(METHOD);
+    let first = format::start(METHOD) as u16;
     Scan {
         array: array,
         stripe: stripe,

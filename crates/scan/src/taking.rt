@@ -86,11 +86,11 @@ fn pass_on(
     method: u8,
     member: usize,
     position: usize,
-    register: u16,
+    register: u32,
     bytes: &[u8],
     work: &mut [u8],
     tag: &mut [u8],
-) -> u16
+) -> u32
     requires { ⌜ member < 16 ⌝ }
     requires { ⌜ position + length (now bytes) ≤ formatOf method .blockLength ⌝ }
     requires { ⌜ length (now work) ≡ formatOf method .dataLength ⌝ }
@@ -115,11 +115,11 @@ fn pass(
     method: u8,
     member: usize,
     position: usize,
-    register: u16,
+    register: u32,
     bytes: &[u8],
     work: &mut [u8],
     tag: &mut [u8],
-) -> u16
+) -> u32
     requires { ⌜ member < 16 ⌝ }
     requires { ⌜ position + length (now bytes) ≤ formatOf method .blockLength ⌝ }
     requires { ⌜ length (now work) ≡ formatOf method .dataLength ⌝ }
@@ -156,13 +156,13 @@ fn take_in(state: Scan, member: usize, bytes: &[u8], work: &mut [u8]) -> Scan
         method,
         member,
         position,
-        registers[member],
+        registers[member] as u32,
         bytes,
         work,
         &mut tag,
     );
     let at = replaced(positions, member as u16, (position + count) as u16);
-    let register = replaced(registers, member as u16, after);
+    let register = replaced(registers, member as u16, after as u16);
     Scan {
         array,
         stripe: state.stripe,

@@ -1,20 +1,32 @@
 -- `format::guard` meets its contract. Assumes nothing.
-use mathlib.Core.Path.{sym, _∙_}
-use Rattle.format.specs.Methods.{formatOf}
-use Rattle.format.proofs.Laws.{guard-t10}
+use mathlib.Core.Path.{sym, ap, _∙_}
 use borrow.Author.Needs.{needs}
+use Rattle.format.specs.Formats.{Format, guard}
+use Rattle.format.proofs.Laws.{of-two, of-other, guard-t10, guard-checksummed}
 use Rattle.format.proofs.guard.Statement.{statement}
 use Rattle.format.proofs.guard.Tie as tie
 
-guard-requires : tie.Need-guard-requires
-guard-requires c κs = search needs
+checksum-requires : tie.Need-checksum-requires
+checksum-requires c κs = search needs
 
 cast-result : tie.Need-cast-result
 cast-result c = search needs
 
 returns : tie.Need-returns
-unfolding formatOf
-returns c = c .guard .ensures ∙ sym (guard-t10 _)
+returns c =
+    let l = c .before .before .before .args .bytes .now in
+    c .checksum .ensures ∙ sym (ap (λ (F : Format). guard F l) (of-two _ (c .before .if1 .taken)) ∙ guard-checksummed l)
+
+guard-requires : tie.Need-guard-requires
+guard-requires c κs = search needs
+
+cast-result-2 : tie.Need-cast-result-2
+cast-result-2 c = search needs
+
+returns-2 : tie.Need-returns-2
+returns-2 c =
+    let l = c .before .before .before .args .bytes .now in
+    c .guard .ensures ∙ sym (ap (λ (F : Format). guard F l) (of-other _ (c .before .if1 .left)) ∙ guard-t10 l)
 
 pub guard-spec : {M : Type 1} → statement M
-guard-spec = tie.close (tie.spec guard-requires cast-result returns)
+guard-spec = tie.close (tie.spec checksum-requires cast-result returns guard-requires cast-result-2 returns-2)

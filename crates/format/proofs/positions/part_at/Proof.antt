@@ -1,36 +1,53 @@
 -- `format::positions::part_at` is `partAt`: each arm is its range. Assumes nothing.
+use mathlib.Core.Path.{_≡_, refl}
+use Prim.Native.Nat.{ℕ}
 use native.Mathlib.Omega.{arith}
 use borrow.Author.Tests.{lt-ltb, le-ltb}
-use Rattle.format.specs.Methods.{formatOf}
+use Rattle.format.specs.Methods.{t10, formatOf}
 use Rattle.format.specs.Positions.{partAt}
+use Rattle.format.proofs.Laws.{of-both}
 use Rattle.format.proofs.positions.part_at.Statement.{statement}
 use Rattle.format.proofs.positions.part_at.Tie as tie
 
+-- the ranges are those of method 1
+alike : (method p : ℕ) → partAt (formatOf method) p ≡ partAt t10 p
+unfolding partAt
+alike method p = of-both (λ F. partAt F p ≡ partAt t10 p) refl refl method
+
 returns : tie.Need-returns
-unfolding formatOf partAt
-returns c = rw (lt-ltb (c .before .args .position) 512 (omega arith))
+unfolding partAt
+returns c =
+    let a = c .before .args in
+    let p = a .position in
+    rw (alike (a .method) p, lt-ltb p 512 (omega arith))
 
 returns-2 : tie.Need-returns-2
-unfolding formatOf partAt
-returns-2 c = let p = c .before .before .args .position in rw (le-ltb p 512 (omega arith), lt-ltb p 514 (omega arith))
+unfolding partAt
+returns-2 c =
+    let a = c .before .before .args in
+    let p = a .position in
+    rw (alike (a .method) p, le-ltb p 512 (omega arith), lt-ltb p 514 (omega arith))
 
 returns-3 : tie.Need-returns-3
-unfolding formatOf partAt
+unfolding partAt
 returns-3 c =
-    let p = c .before .before .before .args .position in
-    rw (le-ltb p 512 (omega arith), le-ltb p 514 (omega arith), lt-ltb p 516 (omega arith))
+    let a = c .before .before .before .args in
+    let p = a .position in
+    rw (alike (a .method) p, le-ltb p 512 (omega arith), le-ltb p 514 (omega arith), lt-ltb p 516 (omega arith))
 
 returns-4 : tie.Need-returns-4
-unfolding formatOf partAt
+unfolding partAt
 returns-4 c =
-    let p = c .before .before .before .before .args .position in
-    rw (le-ltb p 512 (omega arith), le-ltb p 514 (omega arith), le-ltb p 516 (omega arith), lt-ltb p 520 (omega arith))
+    let a = c .before .before .before .before .args in
+    let p = a .position in
+    rw (alike (a .method) p, le-ltb p 512 (omega arith), le-ltb p 514 (omega arith), le-ltb p 516 (omega arith), lt-ltb p 520 (omega arith))
 
 returns-5 : tie.Need-returns-5
-unfolding formatOf partAt
+unfolding partAt
 returns-5 c =
-    let p = c .before .before .before .before .args .position in
-    rw (le-ltb p 512 (omega arith), le-ltb p 514 (omega arith), le-ltb p 516 (omega arith), le-ltb p 520 (omega arith))
+    let a = c .before .before .before .before .args in
+    let p = a .position in
+    rw (alike (a .method) p, le-ltb p 512 (omega arith), le-ltb p 514 (omega arith), le-ltb p 516 (omega arith), le-ltb p 520 (omega arith))
 
 pub part-at-spec : {M : Type 1} → statement M
 part-at-spec = tie.close (tie.spec returns returns-2 returns-3 returns-4 returns-5)

@@ -2,8 +2,10 @@
 -- Assumes nothing.
 use mathlib.Core.Path.{ap, _∙_}
 use Prim.Native.Nat.{ℕ}
+use native.Mathlib.Omega.{arith}
 use lib.ListN.{replicate}
 use Rattle.format.specs.Formats.{mostTags}
+use Rattle.format.proofs.Laws.{start-narrow}
 use Rattle.scan.specs.Scans.{emptyScan}
 use borrow.Author.Needs.{needs}
 use Rattle.scan.proofs.starting.empty.Statement.{statement}
@@ -12,6 +14,9 @@ use Rattle.scan.proofs.starting.empty.Tie as tie
 start-requires : tie.Need-start-requires
 start-requires c κs = search needs
 
+cast-first : tie.Need-cast-first
+cast-first c = omega (arith, c .start .ensures, start-narrow)
+
 returns : tie.Need-returns
 unfolding emptyScan
 returns c =
@@ -19,4 +24,4 @@ returns c =
     ap (λ (x : ℕ). record { array = a .array; stripe = a .stripe; at = replicate 16 0; register = replicate 16 x; tag = replicate mostTags 0 }) (c .start .ensures)
 
 pub empty-spec : {M : Type 1} → statement M
-empty-spec = tie.close (tie.spec start-requires returns)
+empty-spec = tie.close (tie.spec start-requires cast-first returns)

@@ -1,11 +1,14 @@
 -- `scan::taking::take_in` meets its contract. Assumes nothing.
 use mathlib.Core.Path.{_≡_}
-use Prim.Native.Nat.{_+_}
+use Prim.Native.Nat.{_+_, _<_}
 use native.Mathlib.Omega.{arith}
-use lib.ListN.{length}
+use lib.ListN.{length, getD}
+use Rattle.format.proofs.Laws.{advance-narrow}
 use Rattle.tag.specs.Blocks.{formatAt}
-use Rattle.scan.specs.Scans.{buffer}
+use Rattle.scan.specs.Scans.{dataOfPiece, buffer}
 use Rattle.scan.proofs.Cuts.{advanced-by}
+use mir.Val.{Fits}
+use mir.Syntax.{w16}
 use borrow.Author.Needs.{needs}
 use Rattle.scan.proofs.taking.take_in.Statement.{statement}
 use Rattle.scan.proofs.taking.take_in.Tie as tie
@@ -24,6 +27,9 @@ mul-pass c = search needs
 
 array-read-pass : tie.Need-array-read-pass
 array-read-pass c = search needs
+
+cast-pass : tie.Need-cast-pass
+cast-pass c = search needs
 
 slice-aggregate-pass : tie.Need-slice-aggregate-pass
 slice-aggregate-pass c = search needs
@@ -45,6 +51,16 @@ replaced-requires c κs = search needs
 
 cast-replaced-3 : tie.Need-cast-replaced-3
 cast-replaced-3 c = search needs
+
+register-small : (c : tie.After-pass) → let a = c .before .before .before .before .before .before .before .before .before .args in Fits w16 (getD (a .state .register) (a .member) 0)
+register-small c = search needs
+
+cast-replaced-4 : tie.Need-cast-replaced-4
+cast-replaced-4 c =
+    let p = c .before .before .before .before in
+    let a = p .before .before .before .before .before .before .before .before .before .args in
+    let at = getD (a .state .at) (a .member) 0 in
+    omega (arith, p .pass .ensures .0, advance-narrow at (getD (a .state .register) (a .member) 0) (dataOfPiece (formatAt (a .state .array)) at (a .bytes .now)) (omega (arith, register-small p)))
 
 replaced-requires-2 : tie.Need-replaced-requires-2
 replaced-requires-2 c κs = search needs
@@ -75,6 +91,7 @@ take-in-spec =
     cast-position
     mul-pass
     array-read-pass
+    cast-pass
     slice-aggregate-pass
     pass-requires
     cast-replaced
@@ -82,6 +99,7 @@ take-in-spec =
     cast-replaced-2
     replaced-requires
     cast-replaced-3
+    cast-replaced-4
     replaced-requires-2
     same-length
     returns)
