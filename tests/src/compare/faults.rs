@@ -1,7 +1,7 @@
 //! All faults of a block at once: which fields fit, and what stands in them, is known from what was done to the block.
 
 use super::cases::{self, Case};
-use super::{Outcome, Tally, known, standing, tag};
+use super::{Outcome, Tally, all_named, known, standing, tag};
 use crate::random::Random;
 use model::guard::guard;
 use model::layout::{Array, Owner};
@@ -256,12 +256,7 @@ fn cases_of(members: usize, random: &mut Random, tally: &mut Tally) -> Outcome<u
         ("bad in a torn stripe", on.in_torn(random)),
         ("wiped with zeros", on.wiped(random)),
     ];
-    for (name, outcome) in &tried {
-        if let Err(difference) = outcome {
-            return Err(format!("{name}, {members} members: {difference}"));
-        }
-    }
-    Ok(tried.len())
+    all_named(members, &tried)
 }
 
 pub fn compare(random: &mut Random) -> Outcome<String> {

@@ -40,6 +40,16 @@ fn known<T: PartialEq + Debug>(due: T, found: T) -> Outcome<()> {
     Err(format!("due is {due:?}, found {found:?}"))
 }
 
+/// How many named cases were tried, or the first of them that went wrong.
+fn all_named(members: usize, tried: &[(&str, Outcome<()>)]) -> Outcome<usize> {
+    for (name, outcome) in tried {
+        if let Err(difference) = outcome {
+            return Err(format!("{name}, {members} members: {difference}"));
+        }
+    }
+    Ok(tried.len())
+}
+
 /// The refusal number of an answer: 0 where it is done.
 fn refusal<T>(answer: &Answer<T>) -> u32 {
     answer.as_ref().err().copied().unwrap_or(0)

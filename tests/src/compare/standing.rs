@@ -1,7 +1,9 @@
 //! How the members of a stripe stand, good, bad or unchecked: what each call has to answer follows from that alone, and is known before the call.
 
 use super::cases::{self, Case, NEAR_MARKS};
-use super::{Outcome, Tally, VERDICTS, known, scan, scrub, stripe as jobs, tag, verdict_numbers};
+use super::{
+    Outcome, Tally, VERDICTS, all_named, known, scan, scrub, stripe as jobs, tag, verdict_numbers,
+};
 use crate::random::Random;
 use model::Answer;
 use model::layout::{Array, Owner};
@@ -428,12 +430,7 @@ fn sentences(members: usize, random: &mut Random, tally: &mut Tally) -> Outcome<
         ("all members unchecked", on.all_unchecked(random, tally)),
         ("nearly marked", on.near_marks()),
     ];
-    for (name, outcome) in &tried {
-        if let Err(difference) = outcome {
-            return Err(format!("{name}, {members} members: {difference}"));
-        }
-    }
-    Ok(tried.len())
+    all_named(members, &tried)
 }
 
 pub fn compare(random: &mut Random) -> Outcome<String> {
