@@ -12,27 +12,51 @@
  * Each comment says what is written; nothing else changes. A buffer that is written must not overlap another one of
  * the same call.
  *
- * Structs go in and come back by value, as any C compiler does it. The largest, of a scan, are 224 and 232 bytes, which
+ * Structs go in and come back by value, as any C compiler does it. The largest, of a scan, are 240 and 248 bytes, which
  * each of its calls copies. Bytes between the fields hold nothing: compare structs by their fields, not with memcmp.
  * In C++ the word struct is needed before a name that is a call's too.
  *
- * The array. It is named by three numbers: `members` (drives, n), `stripes` (S) and `volume` (any byte). Stripes,
- * members and blocks are counted from 0. A stripe has one block on each member. One of these holds the parity, the
- * exclusive-or of the others' data; the other n - 1 hold data, so the array's block numbers run from 0 to
- * S x (n - 1) - 1. The parity of stripe s lies on member s mod n, and its data, from block s x (n - 1) on, on the other
- * members in rising order.
+ * The array. It is named by four numbers: `members` (drives, n), `stripes` (S), `volume` (any byte) and `method`, the
+ * guard method of all its blocks: 1 (CRC) or 2 (checksum). Stripes, members and blocks are counted from 0. A stripe has
+ * one block on each member. One of these holds the parity, the exclusive-or of the others' data; the other n - 1 hold
+ * data, so the array's block numbers run from 0 to S x (n - 1) - 1. The parity of stripe s lies on member s mod n, and
+ * its data, from block s x (n - 1) on, on the other members in rising order.
  *
- * A block is 520 bytes: 512 of data, then its tag, in which every field has its highest byte first: guard (2 bytes,
- * of the data), application tag (2 bytes: 00h for data or 80h for parity, then the volume), reference tag (4 bytes:
- * the block number; for parity, the lowest block number in its stripe). A stripe in memory is its n blocks in the order
- * of the members, n x 520 bytes.
+ * A block is 520 bytes: 512 of data, then its tag, in which every field has its highest byte first: guard (2 bytes, of
+ * the data, but see method 2), application tag (2 bytes: 00h for data or 80h for parity, then the volume), reference
+ * tag (4 bytes: the block number; for parity, the lowest block number in its stripe). A stripe in memory is its n
+ * blocks in the order of the members, n x 520 bytes.
+ *
+ * Method 1, the CRC (irumbolai_guard). It notices every change of a block's data within sixteen successive bits, in the
+ * parity too. Its guards combine as the data do: the guard of the parity is the exclusive-or of the data members'
+ * guards. The price: where power was lost between the write of a data block and that of its parity, another member that
+ * is rebuilt gets wrong data with a guard that fits. A scrub before the loss says torn; afterwards no call can tell.
+ *
+ * Method 2, the checksum (irumbolai_checksum). It notices every change of a data block within one of its 256 words of
+ * two bytes, unless that turns 0000h into FFFFh or back. It does not combine as the data do, and that is what it is
+ * for: the guard in the parity's tag is not the checksum of the parity's data but the exclusive-or of the data members'
+ * guards. It cannot be checked on the parity alone, so a check of the parity always finds that it fits, and does not
+ * notice a change of the parity's data; a scrub does, and says torn. What it tells is whether the blocks of a stripe
+ * belong together. Each call keeps to that:
+ *
+ *   seal     the parity gets the exclusive-or of the data members' guards
+ *   update   the parity gets the exclusive-or of its old guard and of the block's old and new guards
+ *   read     data are handed out as rebuilt only if the guards stored on all other members combine, by exclusive-or, to
+ *            the checksum of these data, else the refusal is 9
+ *   rebuild  of a data member as for a read; the parity gets the exclusive-or of the data members' guards
+ *   scrub    a stripe is torn, and `first` is 512, if its data fit together but the n stored guards do not combine to 0
+ *
+ * So of a stripe that was only half written a rebuild is as a rule refused by 9 where method 1 would make wrong data.
+ * This is a check of sixteen bits and no proof: some such stripes go unseen, by a rough estimate one in 65,535, and all
+ * in which the lost block held the same data as the one half written did before or was to hold after, as where both
+ * were still empty. A scrub before the loss says torn by either method.
  *
  * Good, bad, unchecked. On a member of a stripe a block is just one of these. It is unchecked if FFFFh stands in its
  * application tag, whatever its other bytes are: by T10's rule such a block is not to be checked. Else it is good if
- * all three fields fit, which is to say that each is the one due there, and bad if one does not. Nobody vouches for the
- * data of an unchecked block: they can be read and replaced, but no call makes other data from them. No call sets the
- * mark: write the two bytes to do so. A rebuild of the block takes it away. A drive that was wiped with FFh reads as
- * unchecked throughout.
+ * all three fields fit, which is to say that each is the one due there (in method 2 the parity's guard always fits),
+ * and bad if one does not. Nobody vouches for the data of an unchecked block: they can be read and replaced, but no
+ * call makes other data from them. No call sets the mark: write the two bytes to do so. A rebuild of the block takes it
+ * away. A drive that was wiped with FFh reads as unchecked throughout.
  *
  * Faults. Which fields of a bad block do not fit hints at what happened. The guard: data changed on the drive. The
  * application tag: the block is of another volume, or parity where data are due or the other way round. The reference
@@ -42,15 +66,19 @@
  * which its numbers are listed, and the first that fails decides. A refused call leaves every buffer as it was
  * and gives 0 in all other fields; a refused piece of a scan gives the state as it came.
  *
- *   1  members, or the number of guards, is not 3 to 16
- *   2  stripes is not 1 to 268,435,456
- *   3  the array has no such stripe, or no such block
- *   4  the state of a scan is not fit: 1, 2 or 3 holds of its numbers, or one of its first n positions is above 520
- *   5  the array has no such member
- *   6  a buffer has not the length that its call asks for
- *   7  a piece is longer than what its member still lacks of a block
- *   8  a member has not given all its 520 bytes
- *   9  the blocks that the call needs are not all good: one is bad or unchecked
+ *    1  members, or the number of guards, is not 3 to 16
+ *    2  stripes is not 1 to 268,435,456
+ *   12  method is not 1 or 2; tested next after 2
+ *    3  the array has no such stripe, or no such block
+ *    4  the state of a scan is not fit: 1, 2, 12 or 3 holds of its numbers; or, of one of its first n members, the
+ *       position is above 520, or a byte waits where none can: `waiting` has to be 0 unless the method is 2 and the
+ *       position is odd and below 512
+ *    5  the array has no such member
+ *    6  a buffer has not the length that its call asks for
+ *    7  a piece is longer than what its member still lacks of a block
+ *    8  a member has not given all its 520 bytes
+ *    9  the blocks that the call needs are not all good: one is bad or unchecked; or, in method 2, their guards do not
+ *       combine to that of the rebuilt data
  */
 #ifndef IRUMBOLAI_H
 #define IRUMBOLAI_H
@@ -63,8 +91,8 @@ extern "C" {
 #endif
 
 /*
- * The guard of a run of bytes: CRC-16/T10-DIF, generator 8BB7h, register started at 0, highest bit first, nothing added
- * at the end. That of no bytes is 0, that of the nine characters 123456789 is D0DBh.
+ * The guard of method 1 of a run of bytes: CRC-16/T10-DIF, generator 8BB7h, register started at 0, highest bit first,
+ * nothing added at the end. That of no bytes is 0, that of the nine characters 123456789 is D0DBh.
  *
  *   lent      bytes: any number, read
  *   refusals  none
@@ -72,10 +100,10 @@ extern "C" {
 uint16_t irumbolai_guard(const uint8_t *bytes, size_t length);
 
 /*
- * The guards of sixteen blocks at once, which takes a fraction of the time of as many calls of irumbolai_guard.
- * guard[i] is that of the 512 bytes that begin i x stride bytes after the first: with a stride of 520, of the data of
- * member i of a stripe in memory. Where the buffer ends before the 512 bytes do, it is the guard of those that are
- * there, so 0 where there are none.
+ * The guards of method 1 of sixteen blocks at once, which takes a fraction of the time of as many calls of
+ * irumbolai_guard. guard[i] is that of the 512 bytes that begin i x stride bytes after the first: with a stride of 520,
+ * of the data of member i of a stripe in memory. Where the buffer ends before the 512 bytes do, it is the guard of
+ * those that are there, so 0 where there are none.
  *
  *   lent      bytes: any number, read
  *   refusals  none
@@ -86,9 +114,25 @@ struct irumbolai_guards {
 struct irumbolai_guards irumbolai_guards(const uint8_t *bytes, size_t length, size_t stride);
 
 /*
- * Guards from guards and lengths, without the bytes. These four refuse nothing: any numbers go through the same sums,
- * whether or not a run has that guard and length. A length is a number of bytes. They look at no byte: a call costs one
- * multiplication for each bit of the length that is one, so 32 at most.
+ * The guard of method 2 of a run of bytes, in `guard`. The bytes are taken as words of two, the first byte the higher.
+ * The sum starts at FFFFh; for each word it is rotated left by one bit, then the word is added, and a carry out of the
+ * sixteen bits is added at the bottom. It is never 0: that of no bytes is FFFFh, and so is that of 512 zeros; that of
+ * the eight characters 12345678 is F806h.
+ *
+ *   lent      bytes: any even number, read
+ *   refusals  6 (an odd length)
+ */
+struct irumbolai_sum {
+    uint32_t refusal;
+    uint32_t guard;
+};
+struct irumbolai_sum irumbolai_checksum(const uint8_t *bytes, size_t length);
+
+/*
+ * Guards of method 1 from guards and lengths, without the bytes. Checksums do not go by these rules. These four refuse
+ * nothing: any numbers go through the same sums, whether or not a run has that guard and length. A length is a number
+ * of bytes. They look at no byte: a call costs one multiplication for each bit of the length that is one, so 32 at
+ * most.
  *
  * A guard does not tell how long its run is: 65,535 zero bytes more at the end leave it as it was.
  */
@@ -108,40 +152,42 @@ uint16_t irumbolai_combine(uint16_t a, uint16_t b);
 /*
  * Where a block lies: its stripe, and the member of it.
  *
- *   refusals  1, 2, 3
+ *   refusals  1, 2, 12, 3
  */
 struct irumbolai_place {
     uint32_t refusal;
     uint32_t member;
     uint64_t stripe;
 };
-struct irumbolai_place irumbolai_place(size_t members, uint64_t stripes, uint8_t volume, uint64_t block);
+struct irumbolai_place irumbolai_place(size_t members, uint64_t stripes, uint8_t volume, uint8_t method,
+                                       uint64_t block);
 
 /*
  * What lies on a member of a stripe: with `parity` 0 the block of that number; with `parity` 1 the parity, and
  * `block` is the lowest block number in the stripe.
  *
- *   refusals  1, 2, 3, 5
+ *   refusals  1, 2, 12, 3, 5
  */
 struct irumbolai_owner {
     uint32_t refusal;
     uint32_t parity;
     uint64_t block;
 };
-struct irumbolai_owner irumbolai_owner(size_t members, uint64_t stripes, uint8_t volume, uint64_t stripe,
-                                       size_t member);
+struct irumbolai_owner irumbolai_owner(size_t members, uint64_t stripes, uint8_t volume, uint8_t method,
+                                       uint64_t stripe, size_t member);
 
 /*
  * Checks a block against the tag due on a member of a stripe, and tells of each of the three fields what stands in the
- * block (`found`), what is due there (`expected`; for the guard, that of the block's data), and whether the two are the
- * same (`fits` 1, else 0). The fields are told of good blocks too. `kind` says how the block stands:
+ * block (`found`), what is due there (`expected`; for the guard, that of the block's data, but in method 2 for the
+ * parity's the one found), and whether the two are the same (`fits` 1, else 0). The fields are told of good blocks too.
+ * `kind` says how the block stands:
  *
  *   0  good: all three fields fit
  *   1  bad: at least one does not
  *   2  unchecked: no field is told, all their numbers are 0. Look at `kind` first: `fits` 0 does not mean bad here
  *
  *   lent      block: 520 bytes, read
- *   refusals  1, 2, 3, 5, 6
+ *   refusals  1, 2, 12, 3, 5, 6
  */
 struct irumbolai_field {
     uint64_t found;
@@ -155,61 +201,64 @@ struct irumbolai_check {
     struct irumbolai_field application;
     struct irumbolai_field reference;
 };
-struct irumbolai_check irumbolai_check(size_t members, uint64_t stripes, uint8_t volume, uint64_t stripe,
-                                       size_t member, const uint8_t *block, size_t length);
+struct irumbolai_check irumbolai_check(size_t members, uint64_t stripes, uint8_t volume, uint8_t method,
+                                       uint64_t stripe, size_t member, const uint8_t *block, size_t length);
 
 /*
  * Makes a stripe from its data: n - 1 times 512 bytes in the order of the block numbers. Each block gets its tag,
- * and the parity is made. Gives the refusal.
+ * and the parity is made, with its tag by the method. Gives the refusal.
  *
  *   lent      data: (n - 1) x 512 bytes, read; bytes: the stripe, n x 520 bytes, every byte written
- *   refusals  1, 2, 3, 6
+ *   refusals  1, 2, 12, 3, 6
  */
-uint32_t irumbolai_seal(size_t members, uint64_t stripes, uint8_t volume, uint64_t stripe, const uint8_t *data,
-                        size_t data_length, uint8_t *bytes, size_t length);
+uint32_t irumbolai_seal(size_t members, uint64_t stripes, uint8_t volume, uint8_t method, uint64_t stripe,
+                        const uint8_t *data, size_t data_length, uint8_t *bytes, size_t length);
 
 /*
  * Reads the data of a block out of its stripe. `kind` says what comes out:
  *
  *   0  stored: the block is good, and its data come out, whatever the other members hold
  *   1  rebuilt: the block is bad and all others are good, and the exclusive-or of the others' data comes out: the lost
- *      data, if parity was right before the loss; no check can tell afterwards
+ *      data, if parity was right before the loss. In method 1 no check can tell afterwards; in method 2 the guards
+ *      stored on the others combine to the checksum of these data, which tells with the strength of sixteen bits
  *   2  unchecked: the block is unchecked, and its data come out as they stand, whatever the other members hold
  *
- * If the block is bad and another one is bad or unchecked, the refusal is 9.
+ * If the block is bad and another one is bad or unchecked, the refusal is 9; in method 2 also if the stored guards do
+ * not combine to that checksum.
  *
  *   lent      bytes: the stripe, n x 520 bytes, read; out: 512 bytes, every byte written
- *   refusals  1, 2, 3, 6, 9
+ *   refusals  1, 2, 12, 3, 6, 9
  */
 struct irumbolai_read {
     uint32_t refusal;
     uint32_t kind;
 };
-struct irumbolai_read irumbolai_read(size_t members, uint64_t stripes, uint8_t volume, uint64_t block,
+struct irumbolai_read irumbolai_read(size_t members, uint64_t stripes, uint8_t volume, uint8_t method, uint64_t block,
                                      const uint8_t *bytes, size_t length, uint8_t *out, size_t out_length);
 
 /*
  * Makes the block of a member from the others, whatever stood there, good, bad or unchecked: the exclusive-or of their
- * data, and the tag due there. The others must all be good, else the refusal is 9. As for a read, the data are the lost
- * ones if parity was right before the loss. Gives the refusal.
+ * data, and the tag due there. The others must all be good, else the refusal is 9; in method 2, where the member holds
+ * data, the guards stored on the others must also combine to the checksum of these data, as for a read. The data are
+ * the lost ones if parity was right before the loss. Gives the refusal.
  *
  *   lent      bytes: the stripe, n x 520 bytes, read; of them the member's 520 bytes, written
- *   refusals  1, 2, 3, 5, 6, 9
+ *   refusals  1, 2, 12, 3, 5, 6, 9
  */
-uint32_t irumbolai_rebuild(size_t members, uint64_t stripes, uint8_t volume, uint64_t stripe, size_t member,
-                           uint8_t *bytes, size_t length);
+uint32_t irumbolai_rebuild(size_t members, uint64_t stripes, uint8_t volume, uint8_t method, uint64_t stripe,
+                           size_t member, uint8_t *bytes, size_t length);
 
 /*
- * Puts new data into a block and brings the parity of its stripe along. Both blocks must be good, else the refusal is
- * 9, also where one is unchecked; the other members are not looked at. A clean stripe stays clean, a torn one torn.
- * Gives the refusal.
+ * Puts new data into a block and brings the parity of its stripe along, its guard by the method. Both blocks must be
+ * good, else the refusal is 9, also where one is unchecked; the other members are not looked at. A clean stripe stays
+ * clean, a torn one torn. Gives the refusal.
  *
  *   lent      data: 512 bytes, read; bytes: the stripe, n x 520 bytes, of which the 520 of the block and the 520 of
  *             the parity are read and written
- *   refusals  1, 2, 3, 6, 9
+ *   refusals  1, 2, 12, 3, 6, 9
  */
-uint32_t irumbolai_update(size_t members, uint64_t stripes, uint8_t volume, uint64_t block, const uint8_t *data,
-                          size_t data_length, uint8_t *bytes, size_t length);
+uint32_t irumbolai_update(size_t members, uint64_t stripes, uint8_t volume, uint8_t method, uint64_t block,
+                          const uint8_t *data, size_t data_length, uint8_t *bytes, size_t length);
 
 /*
  * The full scrub of a stripe. `kind` is the first of these that fits, in this order:
@@ -220,13 +269,15 @@ uint32_t irumbolai_update(size_t members, uint64_t stripes, uint8_t volume, uint
  *   3  unchecked: blocks are unchecked, and none is bad; `first` is the lowest member with one, `count` how many they
  *      are. Whether the stripe is torn is not said
  *   2  torn: all blocks are good, but the data of all members do not combine to zero by exclusive-or; `first` is the
- *      first byte, 0 to 511, at which they do not, and `count` is 0
- *   0  clean: all blocks are good, and the data combine to zero; `first` and `count` are 0
+ *      first byte, 0 to 511, at which they do not, and `count` is 0. In method 2 also if the data do combine to zero,
+ *      but the guards stored on the n members do not; `first` is 512 then
+ *   0  clean: all blocks are good, and the data combine to zero, in method 2 the stored guards too; `first` and `count`
+ *      are 0
  *
  * Where the kind is not bad the last three are 0, for a clean stripe too.
  *
  *   lent      bytes: the stripe, n x 520 bytes, read
- *   refusals  1, 2, 3, 6
+ *   refusals  1, 2, 12, 3, 6
  */
 struct irumbolai_verdict {
     uint32_t refusal;
@@ -237,15 +288,16 @@ struct irumbolai_verdict {
     uint32_t application_fits;
     uint32_t reference_fits;
 };
-struct irumbolai_verdict irumbolai_scrub(size_t members, uint64_t stripes, uint8_t volume, uint64_t stripe,
-                                         const uint8_t *bytes, size_t length);
+struct irumbolai_verdict irumbolai_scrub(size_t members, uint64_t stripes, uint8_t volume, uint8_t method,
+                                         uint64_t stripe, const uint8_t *bytes, size_t length);
 
 /*
- * The quick scrub: the guards stored in the blocks of a stripe, one a member, without the data. `combination` is
- * their exclusive-or, and `differs` is 1 if it is not zero. The guards of a clean stripe do not differ. Those of a torn
- * one do if what its data combine to has all its one bits within sixteen successive bits, each byte's highest bit
- * first; other torn stripes can go unseen. Of a stripe with bad or unchecked blocks it tells nothing: it takes their
- * guards as they stand.
+ * The quick scrub: the guards stored in the blocks of a stripe, one a member, without the data. `combination` is their
+ * exclusive-or, and `differs` is 1 if it is not zero. The guards of a clean stripe do not differ, in either method. In
+ * method 1 those of a torn one do if what its data combine to has all its one bits within sixteen successive bits, each
+ * byte's highest bit first; other torn stripes can go unseen. In method 2 those of a stripe that is torn at 512 do; of
+ * one that is torn at another byte nothing is said. Of a stripe with bad or unchecked blocks it tells nothing: it takes
+ * their guards as they stand.
  *
  *   lent      guards: `count` numbers, each made from its two bytes in the tag, the first the higher; read
  *   refusals  1
@@ -261,17 +313,21 @@ struct irumbolai_quick irumbolai_quick_scrub(const uint16_t *guards, size_t coun
  * A scan: the full scrub of a stripe whose bytes come in pieces. The caller keeps the state and a work buffer of 512
  * bytes between the calls, and hands the state of the last answer to the next call. Of member m the state holds the
  * position in its block (`at[m]`: how many bytes it has given), the guard's register over its data so far
- * (`register_[m]`), and its 8 tag bytes (from `tag[8m]`). The work buffer holds what all data so far combine to.
- * Any state may be handed in: one that is not fit is refused by number 4, and a fit one that no scan led to goes on
- * from what it holds. A kept copy of state and work buffer is a scan that can be taken up again.
+ * (`register_[m]`: in method 2 the sum of its whole words), the data byte that waits for the other one of its word
+ * (`waiting[m]`: 0 where none waits, so always in method 1), and its 8 tag bytes (from `tag[8m]`). The work buffer
+ * holds what all data so far combine to. Any state may be handed in: one that is not fit is refused by number 4, and a
+ * fit one that no scan led to goes on from what it holds. A kept copy of state and work buffer is a scan that can be
+ * taken up again.
  */
 struct irumbolai_scan {
     size_t members;
     uint64_t stripes;
     uint8_t volume;
+    uint8_t method;
     uint64_t stripe;
     uint16_t at[16];
     uint16_t register_[16];
+    uint8_t waiting[16];
     uint8_t tag[128];
 };
 struct irumbolai_taken {
@@ -280,17 +336,19 @@ struct irumbolai_taken {
 };
 
 /*
- * Begins a scan: the state has nothing taken. Where it is refused the whole state is zero.
+ * Begins a scan: the state has nothing taken, and all sixteen registers stand where the guard starts: at 0 in method 1,
+ * at FFFFh in method 2. Where it is refused the whole state is zero.
  *
  *   lent      work: 512 bytes, every byte set to zero
- *   refusals  1, 2, 3, 6
+ *   refusals  1, 2, 12, 3, 6
  */
-struct irumbolai_taken irumbolai_start(size_t members, uint64_t stripes, uint8_t volume, uint64_t stripe, uint8_t *work,
-                                       size_t work_length);
+struct irumbolai_taken irumbolai_start(size_t members, uint64_t stripes, uint8_t volume, uint8_t method,
+                                       uint64_t stripe, uint8_t *work, size_t work_length);
 
 /*
- * Takes in the next bytes of a member, from none to all that its block still lacks. Data bytes go into the member's
- * register, tag bytes into its tag bytes, and its position moves on; nothing else of the state changes.
+ * Takes in the next bytes of a member, from none to all that its block still lacks; in method 2 too they may be cut
+ * anywhere. Data bytes go into the member's register, or one waits for the next, tag bytes go into its tag bytes, and
+ * its position moves on; nothing else of the state changes.
  *
  *   lent      bytes: the piece, read; work: 512 bytes, the data bytes combined into those at their places in the block
  *   refusals  4, 5, 6 (of the work buffer), 7

@@ -2,7 +2,7 @@
  * The rig: looks at one stripe through libirumbolai.a and says what it finds. README.md has the format of its file,
  * its lines and its exit codes.
  *
- *     rig MEMBERS STRIPES VOLUME STRIPE FILE
+ *     rig MEMBERS STRIPES VOLUME METHOD STRIPE FILE
  */
 #include <errno.h>
 #include <inttypes.h>
@@ -15,6 +15,9 @@
 
 enum { DATA_BYTES = 512, BLOCK_BYTES = 520, MOST_MEMBERS = 16 };
 
+/* The guard methods. */
+enum { CRC = 1, CHECKSUM = 2 };
+
 enum exit_code { CLEAN = 0, FOUND = 1, REFUSED = 2 };
 
 /* A stripe in memory, and the numbers that say which one it is. */
@@ -22,6 +25,7 @@ struct stripe {
     size_t members;
     uint64_t stripes;
     uint8_t volume;
+    uint8_t method;
     uint64_t number;
     uint8_t *bytes;
     size_t length;
@@ -31,19 +35,21 @@ struct stripe {
 static const char *in_words(uint32_t refusal)
 {
     static const char *const words[] = {
-        "done",
-        "the members are not 3 to 16",
-        "the stripes are not 1 to 268435456",
-        "the array has no such stripe or block",
-        "the state of the scan is not fit",
-        "the array has no such member",
-        "a buffer is not as long as it has to be",
-        "the piece is longer than what its member lacks",
-        "a member has not given all its bytes",
-        "the blocks that are needed are not all good",
+        [0] = "done",
+        [1] = "the members are not 3 to 16",
+        [2] = "the stripes are not 1 to 268435456",
+        [3] = "the array has no such stripe or block",
+        [4] = "the state of the scan is not fit",
+        [5] = "the array has no such member",
+        [6] = "a buffer is not as long as it has to be",
+        [7] = "the piece is longer than what its member lacks",
+        [8] = "a member has not given all its bytes",
+        [9] = "the blocks that are needed are not all good, or do not belong together",
+        [12] = "the method is not 1 or 2",
     };
+    bool known = refusal < sizeof words / sizeof words[0] && words[refusal] != NULL;
 
-    return refusal < sizeof words / sizeof words[0] ? words[refusal] : "no such refusal";
+    return known ? words[refusal] : "no such refusal";
 }
 
 static void show_refusal(uint32_t refusal)
@@ -89,27 +95,47 @@ static const uint8_t *block_of(const struct stripe *stripe, size_t member)
 
 /* The calls that take the array's numbers, each once: the rest of the program hands over a stripe. */
 
+static struct irumbolai_owner owner_of(const struct stripe *stripe, size_t member)
+{
+    return irumbolai_owner(stripe->members, stripe->stripes, stripe->volume, stripe->method, stripe->number, member);
+}
+
 static struct irumbolai_check check_member(const struct stripe *stripe, size_t member)
 {
-    return irumbolai_check(stripe->members, stripe->stripes, stripe->volume, stripe->number, member,
+    return irumbolai_check(stripe->members, stripe->stripes, stripe->volume, stripe->method, stripe->number, member,
                            block_of(stripe, member), BLOCK_BYTES);
 }
 
 static struct irumbolai_verdict scrub(const struct stripe *stripe)
 {
-    return irumbolai_scrub(stripe->members, stripe->stripes, stripe->volume, stripe->number, stripe->bytes,
-                           stripe->length);
+    return irumbolai_scrub(stripe->members, stripe->stripes, stripe->volume, stripe->method, stripe->number,
+                           stripe->bytes, stripe->length);
 }
 
 static struct irumbolai_taken start_scan(const struct stripe *stripe, uint8_t *work, size_t work_length)
 {
-    return irumbolai_start(stripe->members, stripe->stripes, stripe->volume, stripe->number, work, work_length);
+    return irumbolai_start(stripe->members, stripe->stripes, stripe->volume, stripe->method, stripe->number, work,
+                           work_length);
 }
 
 /* The guard in the tag of a block, as it stands there: the highest byte comes first. */
 static uint16_t stored_guard(const uint8_t *block)
 {
     return (uint16_t)(block[DATA_BYTES] << 8 | block[DATA_BYTES + 1]);
+}
+
+/* The guard that the data of a block ask for, by the method. Their number is even, so the checksum is not refused. */
+static uint16_t due_guard(const struct stripe *stripe, const uint8_t *block)
+{
+    if (stripe->method == CHECKSUM)
+        return (uint16_t)irumbolai_checksum(block, DATA_BYTES).guard;
+    return irumbolai_guard(block, DATA_BYTES);
+}
+
+/* The parity's guard by checksum tells of the whole stripe, and its own data ask for none. */
+static bool asks_for_guard(const struct stripe *stripe, size_t member)
+{
+    return stripe->method == CRC || owner_of(stripe, member).parity == 0;
 }
 
 /* A field of a tag, with so many digits: as found, as expected, and whether they are the same. */
@@ -128,8 +154,11 @@ static void show_member(const struct stripe *stripe, size_t member)
     const uint8_t *block = block_of(stripe, member);
     struct irumbolai_check check = check_member(stripe, member);
 
-    printf("member %zu: guard stored %04X, due %04X: ", member, (unsigned)stored_guard(block),
-           (unsigned)irumbolai_guard(block, DATA_BYTES));
+    printf("member %zu: guard stored %04X, ", member, (unsigned)stored_guard(block));
+    if (asks_for_guard(stripe, member))
+        printf("due %04X: ", (unsigned)due_guard(stripe, block));
+    else
+        printf("not checked: ");
     if (check.refusal != 0) {
         show_refusal(check.refusal);
         return;
@@ -192,8 +221,8 @@ static enum exit_code look_at(const struct stripe *stripe)
 {
     struct irumbolai_verdict whole = scrub(stripe);
 
-    printf("stripe %" PRIu64 " of %" PRIu64 ", members %zu, volume %u\n", stripe->number, stripe->stripes,
-           stripe->members, (unsigned)stripe->volume);
+    printf("stripe %" PRIu64 " of %" PRIu64 ", members %zu, volume %u, method %u\n", stripe->number, stripe->stripes,
+           stripe->members, (unsigned)stripe->volume, (unsigned)stripe->method);
     if (whole.refusal != 0) {
         show_verdict("scrub", whole);
         return REFUSED;
@@ -258,19 +287,20 @@ static bool read_stripe(const char *path, struct stripe *stripe)
 int main(int argc, char **argv)
 {
     struct stripe stripe;
-    uint64_t members, volume;
+    uint64_t members, volume, method;
     enum exit_code code;
 
-    if (argc != 6 || !read_number(argv[1], SIZE_MAX, &members) ||
+    if (argc != 7 || !read_number(argv[1], SIZE_MAX, &members) ||
         !read_number(argv[2], UINT64_MAX, &stripe.stripes) || !read_number(argv[3], UINT8_MAX, &volume) ||
-        !read_number(argv[4], UINT64_MAX, &stripe.number)) {
-        fprintf(stderr, "usage: rig MEMBERS STRIPES VOLUME STRIPE FILE\n");
+        !read_number(argv[4], UINT8_MAX, &method) || !read_number(argv[5], UINT64_MAX, &stripe.number)) {
+        fprintf(stderr, "usage: rig MEMBERS STRIPES VOLUME METHOD STRIPE FILE\n");
         return REFUSED;
     }
     stripe.members = (size_t)members;
     stripe.volume = (uint8_t)volume;
-    if (!read_stripe(argv[5], &stripe)) {
-        fprintf(stderr, "rig: %s cannot be read\n", argv[5]);
+    stripe.method = (uint8_t)method;
+    if (!read_stripe(argv[6], &stripe)) {
+        fprintf(stderr, "rig: %s cannot be read\n", argv[6]);
         return REFUSED;
     }
 

@@ -1,6 +1,6 @@
 //! The calls of include/irumbolai.h that are measured, of either archive, on the one array of this program.
 
-use crate::stripes::{BLOCK, MEMBERS, STRIPES, VOLUME, Verdict};
+use crate::stripes::{BLOCK, CRC, MEMBERS, STRIPES, VOLUME, Verdict};
 
 #[repr(C)]
 struct Answer {
@@ -18,9 +18,11 @@ struct Scan {
     members: usize,
     stripes: u64,
     volume: u8,
+    method: u8,
     stripe: u64,
     at: [u16; 16],
     register: [u16; 16],
+    waiting: [u8; 16],
     tag: [u8; 128],
 }
 
@@ -35,6 +37,12 @@ struct Guards {
     guard: [u16; MEMBERS],
 }
 
+#[repr(C)]
+struct Sum {
+    refusal: u32,
+    guard: u32,
+}
+
 /// Declares the calls of both archives, which have the same functions; build.rs gives those of the second a mark before their names.
 macro_rules! calls {
     ($($call:ident, $name:ident, $marked:literal, ($($argument:ident: $kind:ty),+) -> $answer:ty;)+) => {
@@ -43,14 +51,14 @@ macro_rules! calls {
         }
 
         mod plain {
-            use super::{Answer, Guards, Scan, Taken};
+            use super::{Answer, Guards, Scan, Sum, Taken};
             unsafe extern "C" {
                 $(pub fn $name($($argument: $kind),+) -> $answer;)+
             }
         }
 
         mod v3 {
-            use super::{Answer, Guards, Scan, Taken};
+            use super::{Answer, Guards, Scan, Sum, Taken};
             unsafe extern "C" {
                 $(#[link_name = $marked] pub fn $name($($argument: $kind),+) -> $answer;)+
             }
@@ -80,11 +88,12 @@ pub struct V3;
 calls! {
     guard, irumbolai_guard, "v3_irumbolai_guard", (bytes: *const u8, length: usize) -> u16;
     guards, irumbolai_guards, "v3_irumbolai_guards", (bytes: *const u8, length: usize, stride: usize) -> Guards;
+    checksum, irumbolai_checksum, "v3_irumbolai_checksum", (bytes: *const u8, length: usize) -> Sum;
     join, irumbolai_join, "v3_irumbolai_join", (a: u16, b: u16, length_of_b: u32) -> u16;
-    seal, irumbolai_seal, "v3_irumbolai_seal", (members: usize, stripes: u64, volume: u8, stripe: u64, data: *const u8, data_length: usize, bytes: *mut u8, length: usize) -> u32;
-    rebuild, irumbolai_rebuild, "v3_irumbolai_rebuild", (members: usize, stripes: u64, volume: u8, stripe: u64, member: usize, bytes: *mut u8, length: usize) -> u32;
-    scrub, irumbolai_scrub, "v3_irumbolai_scrub", (members: usize, stripes: u64, volume: u8, stripe: u64, bytes: *const u8, length: usize) -> Answer;
-    start, irumbolai_start, "v3_irumbolai_start", (members: usize, stripes: u64, volume: u8, stripe: u64, work: *mut u8, work_length: usize) -> Taken;
+    seal, irumbolai_seal, "v3_irumbolai_seal", (members: usize, stripes: u64, volume: u8, method: u8, stripe: u64, data: *const u8, data_length: usize, bytes: *mut u8, length: usize) -> u32;
+    rebuild, irumbolai_rebuild, "v3_irumbolai_rebuild", (members: usize, stripes: u64, volume: u8, method: u8, stripe: u64, member: usize, bytes: *mut u8, length: usize) -> u32;
+    scrub, irumbolai_scrub, "v3_irumbolai_scrub", (members: usize, stripes: u64, volume: u8, method: u8, stripe: u64, bytes: *const u8, length: usize) -> Answer;
+    start, irumbolai_start, "v3_irumbolai_start", (members: usize, stripes: u64, volume: u8, method: u8, stripe: u64, work: *mut u8, work_length: usize) -> Taken;
     piece, irumbolai_piece, "v3_irumbolai_piece", (state: Scan, member: usize, bytes: *const u8, length: usize, work: *mut u8, work_length: usize) -> Taken;
     finish, irumbolai_finish, "v3_irumbolai_finish", (state: Scan, work: *const u8, work_length: usize) -> Answer;
 }
@@ -92,10 +101,10 @@ calls! {
 // SAFETY, for every call: each pointer comes with the length of its own buffer, which is lent for the call alone,
 // and is not const only where the header lets the call write.
 
-/// A call on the array of this program, whose numbers go first, one by one. No call is handed them elsewhere.
+/// A call on the array of this program, by a guard method. The array's numbers go first, one by one. No call is handed them elsewhere.
 macro_rules! on_array {
-    ($archive:ident, $call:ident, $($rest:expr),+) => {
-        unsafe { ($archive::CALLS.$call)(MEMBERS, STRIPES, VOLUME, $($rest),+) }
+    ($archive:ident, $call:ident, $method:expr, $($rest:expr),+) => {
+        unsafe { ($archive::CALLS.$call)(MEMBERS, STRIPES, VOLUME, $method, $($rest),+) }
     };
 }
 
@@ -108,36 +117,43 @@ pub fn guards<A: Archive>(bytes: &[u8]) -> [u16; MEMBERS] {
     unsafe { (A::CALLS.guards)(bytes.as_ptr(), bytes.len(), BLOCK) }.guard
 }
 
+/// The checksum of an even number of bytes.
+pub fn checksum<A: Archive>(bytes: &[u8]) -> u16 {
+    let sum = unsafe { (A::CALLS.checksum)(bytes.as_ptr(), bytes.len()) };
+    assert_eq!(sum.refusal, 0, "the call is not refused");
+    sum.guard as u16
+}
+
 pub fn join<A: Archive>(a: u16, b: u16, length_of_b: u32) -> u16 {
     unsafe { (A::CALLS.join)(a, b, length_of_b) }
 }
 
 /// Makes a stripe of its data. Gives the refusal.
-pub fn seal<A: Archive>(stripe: u64, data: &[u8], bytes: &mut [u8]) -> u32 {
+pub fn seal<A: Archive>(method: u8, stripe: u64, data: &[u8], bytes: &mut [u8]) -> u32 {
     let (from, from_length) = (data.as_ptr(), data.len());
     let (to, to_length) = (bytes.as_mut_ptr(), bytes.len());
-    on_array!(A, seal, stripe, from, from_length, to, to_length)
+    on_array!(A, seal, method, stripe, from, from_length, to, to_length)
 }
 
 /// Gives the refusal.
-pub fn rebuild<A: Archive>(stripe: u64, member: usize, bytes: &mut [u8]) -> u32 {
+pub fn rebuild<A: Archive>(method: u8, stripe: u64, member: usize, bytes: &mut [u8]) -> u32 {
     let (to, length) = (bytes.as_mut_ptr(), bytes.len());
-    on_array!(A, rebuild, stripe, member, to, length)
+    on_array!(A, rebuild, method, stripe, member, to, length)
 }
 
-pub fn scrub<A: Archive>(stripe: u64, bytes: &[u8]) -> Verdict {
+pub fn scrub<A: Archive>(method: u8, stripe: u64, bytes: &[u8]) -> Verdict {
     let (from, length) = (bytes.as_ptr(), bytes.len());
-    verdict(on_array!(A, scrub, stripe, from, length))
+    verdict(on_array!(A, scrub, method, stripe, from, length))
 }
 
-/// A scan of a stripe, one piece for each of the blocks.
+/// A scan of a stripe by method 1, one piece for each of the blocks.
 pub fn scan<'a, A: Archive>(
     stripe: u64,
     blocks: impl Iterator<Item = &'a [u8]>,
     work: &mut [u8],
 ) -> Verdict {
     let (to, to_length) = (work.as_mut_ptr(), work.len());
-    let mut taken = on_array!(A, start, stripe, to, to_length);
+    let mut taken = on_array!(A, start, CRC, stripe, to, to_length);
     for (member, block) in blocks.enumerate() {
         let (from, length) = (block.as_ptr(), block.len());
         taken = unsafe { (A::CALLS.piece)(taken.state, member, from, length, to, to_length) };

@@ -1,9 +1,16 @@
-//! The same jobs in ordinary Rust, over two ways to make guards: a loop over bits, and ISA-L, the latter with two ways to combine.
+//! The same jobs in ordinary Rust, over two ways to make guards of method 1: a loop over bits, and ISA-L, the latter with two ways to combine; and over
+//! a loop for those of method 2.
 
-use crate::stripes::{BLOCK, DATA, Fits, MEMBERS, VOLUME, Verdict, blocks};
+use crate::stripes::{
+    BLOCK, CHECKSUM, CRC, DATA, Fits, MEMBERS, VOLUME, Verdict, blocks, parity_member,
+};
 use std::array;
 
 pub trait Peer {
+    /// The method of the guards, and where their register starts.
+    const METHOD: u8 = CRC;
+    const START: u16 = 0;
+
     /// The register of the guard after more bytes.
     fn go_on(register: u16, bytes: &[u8]) -> u16;
 
@@ -47,6 +54,35 @@ impl Peer for Ordinary {
             }
         }
         sum
+    }
+}
+
+/// The loop that document 000 suggests for the checksum, carries wrapped after every eight words. It goes on after whole words.
+pub struct Summed;
+
+impl Peer for Summed {
+    const METHOD: u8 = CHECKSUM;
+    const START: u16 = 0xFFFF;
+
+    #[inline(never)]
+    fn go_on(register: u16, bytes: &[u8]) -> u16 {
+        let wrapped = |sum: u32| (sum & 0xFFFF) + (sum >> 16);
+        let mut sum = u32::from(register);
+        for eight in bytes.chunks(16) {
+            for word in eight.chunks_exact(2) {
+                sum = (sum << 1) + u32::from(u16::from_be_bytes([word[0], word[1]]));
+            }
+            sum = wrapped(sum);
+        }
+        wrapped(sum) as u16
+    }
+
+    fn add(sum: &mut [u8], bytes: &[u8]) {
+        Ordinary::add(sum, bytes);
+    }
+
+    fn combined(bytes: &[u8], skip: usize) -> [u8; DATA] {
+        Ordinary::combined(bytes, skip)
     }
 }
 
@@ -159,12 +195,30 @@ fn xor_into(sum: &mut [u8], bytes: &[u8]) {
 }
 
 pub fn guard<P: Peer>(bytes: &[u8]) -> u16 {
-    P::go_on(0, bytes)
+    P::go_on(P::START, bytes)
+}
+
+/// The guard that stands in a tag.
+fn stored(tag: &[u8]) -> u16 {
+    u16::from_be_bytes([tag[0], tag[1]])
+}
+
+/// What the guards combine to that stand in the blocks of all members but `skip`.
+fn combined_guards(bytes: &[u8], skip: usize) -> u16 {
+    let others = blocks(bytes)
+        .enumerate()
+        .filter(|(member, _)| *member != skip);
+    others.fold(0, |sum, (_, block)| sum ^ stored(&block[DATA..]))
+}
+
+/// Whether the guard on a member is what those of the data combine to, which the block itself does not tell.
+fn is_combined<P: Peer>(stripe: u64, member: usize) -> bool {
+    P::METHOD == CHECKSUM && member == parity_member(stripe)
 }
 
 /// The tag due on a member of a stripe where the data have this guard.
 fn due(stripe: u64, member: usize, guard: u16) -> [u8; 8] {
-    let parity = (stripe % MEMBERS as u64) as usize;
+    let parity = parity_member(stripe);
     let lowest = stripe as u32 * (MEMBERS as u32 - 1);
     let (kind, reference) = if member == parity {
         (0x80, lowest)
@@ -183,8 +237,14 @@ enum Standing {
     Unchecked,
 }
 
-/// How a block with this tag stands where that one is due.
-fn standing(tag: &[u8], due: [u8; 8]) -> Standing {
+/// How a block stands on a member, with this tag and data of that guard.
+fn standing<P: Peer>(stripe: u64, member: usize, tag: &[u8], own: u16) -> Standing {
+    let guard = if is_combined::<P>(stripe, member) {
+        stored(tag)
+    } else {
+        own
+    };
+    let due = due(stripe, member, guard);
     if *tag == due {
         Standing::Good
     } else if tag[2..4] == [0xFF; 2] {
@@ -197,11 +257,15 @@ fn standing(tag: &[u8], due: [u8; 8]) -> Standing {
 
 fn standing_at<P: Peer>(stripe: u64, member: usize, block: &[u8]) -> Standing {
     let (data, tag) = block.split_at(DATA);
-    standing(tag, due(stripe, member, guard::<P>(data)))
+    standing::<P>(stripe, member, tag, guard::<P>(data))
 }
 
-/// What is said of a stripe: how its members stand, and what its data combine to.
-fn verdict(members: [Standing; MEMBERS], sum: &[u8; DATA]) -> Verdict {
+/// What is said of a stripe: how its members stand, what its data combine to, and by method 2 what its guards do.
+fn verdict<P: Peer>(
+    members: [Standing; MEMBERS],
+    sum: &[u8; DATA],
+    guards: impl FnOnce() -> u16,
+) -> Verdict {
     let mut bad = members
         .iter()
         .enumerate()
@@ -223,7 +287,10 @@ fn verdict(members: [Standing; MEMBERS], sum: &[u8; DATA]) -> Verdict {
         return Verdict::Unchecked { member, count };
     }
     if *sum == [0; DATA] {
-        return Verdict::Clean;
+        return match P::METHOD == CHECKSUM && guards() != 0 {
+            true => Verdict::Torn { place: DATA },
+            false => Verdict::Clean,
+        };
     }
     let place = sum.iter().position(|byte| *byte != 0);
     let place = place.expect("a byte is not zero");
@@ -234,10 +301,12 @@ pub fn scrub<P: Peer>(stripe: u64, bytes: &[u8]) -> Verdict {
     let members = array::from_fn(|member| {
         standing_at::<P>(stripe, member, &bytes[member * BLOCK..][..BLOCK])
     });
-    verdict(members, &P::combined(bytes, MEMBERS))
+    verdict::<P>(members, &P::combined(bytes, MEMBERS), || {
+        combined_guards(bytes, MEMBERS)
+    })
 }
 
-/// Whether the member was rebuilt: all others must be good.
+/// Whether the member was rebuilt: all others must be good, and by method 2 the guards must fit what is made of them, unless that is the parity.
 pub fn rebuild<P: Peer>(stripe: u64, member: usize, bytes: &mut [u8]) -> bool {
     let good = |(other, block)| {
         other == member || standing_at::<P>(stripe, other, block) == Standing::Good
@@ -246,7 +315,15 @@ pub fn rebuild<P: Peer>(stripe: u64, member: usize, bytes: &mut [u8]) -> bool {
         return false;
     }
     let data = P::combined(bytes, member);
-    let tag = due(stripe, member, guard::<P>(&data));
+    let own = guard::<P>(&data);
+    let combined = match P::METHOD {
+        CRC => own,
+        _ => combined_guards(bytes, member),
+    };
+    if combined != own && !is_combined::<P>(stripe, member) {
+        return false;
+    }
+    let tag = due(stripe, member, combined);
     let block = &mut bytes[member * BLOCK..][..BLOCK];
     block[..DATA].copy_from_slice(&data);
     block[DATA..].copy_from_slice(&tag);
@@ -281,7 +358,7 @@ pub fn scan<'a, P: Peer>(
     work.fill(0);
     let mut scan = Scan {
         at: [0; MEMBERS],
-        register: [0; MEMBERS],
+        register: [P::START; MEMBERS],
         tag: [[0; 8]; MEMBERS],
     };
     for (member, block) in blocks.enumerate() {
@@ -289,8 +366,9 @@ pub fn scan<'a, P: Peer>(
     }
     assert_eq!(scan.at, [BLOCK; MEMBERS], "every member is whole");
     let members = array::from_fn(|member| {
-        let due = due(stripe, member, scan.register[member]);
-        standing(&scan.tag[member], due)
+        standing::<P>(stripe, member, &scan.tag[member], scan.register[member])
     });
-    verdict(members, work)
+    verdict::<P>(members, work, || {
+        scan.tag.iter().fold(0, |sum, tag| sum ^ stored(tag))
+    })
 }

@@ -6,7 +6,7 @@ use crate::random::{self, Random};
 use crate::rows::{
     CONTESTANTS, ISAL, ISAL_V3, MEMCPY, ORDINARY, PLAIN, Room, V3, copy_stripe, guards,
 };
-use crate::stripes::{MEMBERS, STRIPE, VOLUME, Verdict, blocks, damage, seal};
+use crate::stripes::{CRC, MEMBERS, STRIPE, VOLUME, Verdict, blocks, damage, seal};
 use crate::timing::{is_here, keep, timed};
 use std::env;
 use std::hint::black_box;
@@ -49,7 +49,7 @@ pub fn compare(programs: [&Path; 2]) {
     let mut random = Random::new(random::seed());
     let mut image = image(COMPARED, &mut random);
     for (number, bytes) in image[HEADER..].chunks_exact_mut(STRIPE).enumerate() {
-        damage(number as u64, bytes, &mut random);
+        damage(CRC, number as u64, bytes, &mut random);
     }
     agree(programs, &image);
 }
@@ -109,7 +109,7 @@ fn image(stripes: usize, random: &mut Random) -> Vec<u8> {
     let mut image = vec![0x00, 0x07, 0x01, MEMBERS as u8, VOLUME];
     image.extend((stripes as u32).to_be_bytes());
     image.resize(HEADER + stripes * STRIPE, 0);
-    seal(&mut image[HEADER..], random);
+    seal(CRC, &mut image[HEADER..], random);
     image
 }
 
@@ -144,7 +144,8 @@ fn run(command: &mut Command, image: &[u8], output: Stdio) -> Vec<u8> {
 /// The programs write the report that the library's scrub gives.
 fn agree(programs: [&Path; 2], image: &[u8]) {
     let mut due = Vec::new();
-    report(image, &mut due, library::scrub::<Plain>).expect("memory takes the report");
+    let scrub = |stripe, bytes: &[u8]| library::scrub::<Plain>(CRC, stripe, bytes);
+    report(image, &mut due, scrub).expect("memory takes the report");
     for who in PROGRAMS.into_iter().filter(|who| is_here(*who)) {
         let mut command = command(who, programs);
         let found = run(&mut command, image, Stdio::piped());

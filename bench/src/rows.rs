@@ -1,8 +1,8 @@
 //! What is measured: each row is one job, done by the library and by its peers. A new row is a new entry of ROWS.
 
 use crate::library::{self, Archive};
-use crate::peers::{self, Isal, IsalV3, Ordinary};
-use crate::stripes::{BLOCK, DATA, MEMBERS, STRIPE, blocks};
+use crate::peers::{self, Isal, IsalV3, Ordinary, Summed};
+use crate::stripes::{BLOCK, CHECKSUM, CRC, DATA, MEMBERS, STRIPE, blocks};
 use std::hint::black_box;
 
 /// Where a job writes beside the stripe.
@@ -46,7 +46,35 @@ pub struct Row {
     pub units: usize,
     pub bytes: usize,
     pub sources: &'static [Source],
-    pub jobs: [Job; CONTESTANTS],
+    /// The guard method of its stripes.
+    pub method: u8,
+    /// None of a contestant that has no such job.
+    pub jobs: [Option<Job>; CONTESTANTS],
+}
+
+const fn all(jobs: [Job; CONTESTANTS]) -> [Option<Job>; CONTESTANTS] {
+    let [plain, v3, ordinary, isal, isal_v3, memcpy] = jobs;
+    [
+        Some(plain),
+        Some(v3),
+        Some(ordinary),
+        Some(isal),
+        Some(isal_v3),
+        Some(memcpy),
+    ]
+}
+
+/// ISA-L has no checksum.
+const fn without_isal(jobs: [Job; 4]) -> [Option<Job>; CONTESTANTS] {
+    let [plain, v3, ordinary, memcpy] = jobs;
+    [
+        Some(plain),
+        Some(v3),
+        Some(ordinary),
+        None,
+        None,
+        Some(memcpy),
+    ]
 }
 
 /// The member that is rebuilt. It holds the parity of one stripe in sixteen.
@@ -59,14 +87,15 @@ pub const ROWS: &[Row] = &[
         units: MEMBERS,
         bytes: DATA,
         sources: &[Source::Cache],
-        jobs: [
+        method: CRC,
+        jobs: all([
             |_, bytes, _| alone(library::guard::<library::Plain>, bytes),
             |_, bytes, _| alone(library::guard::<library::V3>, bytes),
             |_, bytes, _| alone(peers::guard::<Ordinary>, bytes),
             |_, bytes, _| alone(peers::guard::<Isal>, bytes),
             |_, bytes, _| alone(peers::guard::<IsalV3>, bytes),
             |_, bytes, room| copy_one(bytes, room),
-        ],
+        ]),
     },
     Row {
         name: "guard of many blocks",
@@ -74,14 +103,15 @@ pub const ROWS: &[Row] = &[
         units: MEMBERS,
         bytes: DATA,
         sources: &[Source::Cache, Source::Memory],
-        jobs: [
+        method: CRC,
+        jobs: all([
             |_, bytes, _| together(library::guards::<library::Plain>(bytes)),
             |_, bytes, _| together(library::guards::<library::V3>(bytes)),
             |_, bytes, _| guards(peers::guard::<Ordinary>, bytes),
             |_, bytes, _| guards(peers::guard::<Isal>, bytes),
             |_, bytes, _| guards(peers::guard::<IsalV3>, bytes),
             |_, bytes, room| copy_blocks(bytes, room),
-        ],
+        ]),
     },
     Row {
         name: "full scrub",
@@ -89,14 +119,15 @@ pub const ROWS: &[Row] = &[
         units: 1,
         bytes: STRIPE,
         sources: &[Source::Cache, Source::Memory],
-        jobs: [
-            |stripe, bytes, _| library::scrub::<library::Plain>(stripe, bytes).number(),
-            |stripe, bytes, _| library::scrub::<library::V3>(stripe, bytes).number(),
+        method: CRC,
+        jobs: all([
+            |stripe, bytes, _| library::scrub::<library::Plain>(CRC, stripe, bytes).number(),
+            |stripe, bytes, _| library::scrub::<library::V3>(CRC, stripe, bytes).number(),
             |stripe, bytes, _| peers::scrub::<Ordinary>(stripe, bytes).number(),
             |stripe, bytes, _| peers::scrub::<Isal>(stripe, bytes).number(),
             |stripe, bytes, _| peers::scrub::<IsalV3>(stripe, bytes).number(),
             |_, bytes, room| copy_stripe(bytes, room),
-        ],
+        ]),
     },
     Row {
         name: "rebuild of one member",
@@ -104,14 +135,15 @@ pub const ROWS: &[Row] = &[
         units: 1,
         bytes: STRIPE,
         sources: &[Source::Cache, Source::Memory],
-        jobs: [
-            |stripe, bytes, _| rebuilt::<library::Plain>(stripe, bytes),
-            |stripe, bytes, _| rebuilt::<library::V3>(stripe, bytes),
+        method: CRC,
+        jobs: all([
+            |stripe, bytes, _| rebuilt::<library::Plain>(CRC, stripe, bytes),
+            |stripe, bytes, _| rebuilt::<library::V3>(CRC, stripe, bytes),
             |stripe, bytes, _| u64::from(peers::rebuild::<Ordinary>(stripe, LOST, bytes)),
             |stripe, bytes, _| u64::from(peers::rebuild::<Isal>(stripe, LOST, bytes)),
             |stripe, bytes, _| u64::from(peers::rebuild::<IsalV3>(stripe, LOST, bytes)),
             |_, bytes, room| copy_stripe(bytes, room),
-        ],
+        ]),
     },
     Row {
         name: "scan in 520-byte pieces",
@@ -119,7 +151,8 @@ pub const ROWS: &[Row] = &[
         units: 1,
         bytes: STRIPE,
         sources: &[Source::Cache, Source::Memory],
-        jobs: [
+        method: CRC,
+        jobs: all([
             |stripe, bytes, room| {
                 library::scan::<library::Plain>(stripe, blocks(bytes), &mut room.work).number()
             },
@@ -136,12 +169,68 @@ pub const ROWS: &[Row] = &[
                 peers::scan::<IsalV3>(stripe, blocks(bytes), &mut room.work).number()
             },
             |_, bytes, room| copy_stripe(bytes, room),
-        ],
+        ]),
+    },
+    Row {
+        name: "checksum of one block alone",
+        unit: "block",
+        units: MEMBERS,
+        bytes: DATA,
+        sources: &[Source::Cache],
+        method: CHECKSUM,
+        jobs: without_isal([
+            |_, bytes, _| alone(library::checksum::<library::Plain>, bytes),
+            |_, bytes, _| alone(library::checksum::<library::V3>, bytes),
+            |_, bytes, _| alone(peers::guard::<Summed>, bytes),
+            |_, bytes, room| copy_one(bytes, room),
+        ]),
+    },
+    Row {
+        name: "checksum of many blocks",
+        unit: "block",
+        units: MEMBERS,
+        bytes: DATA,
+        sources: &[Source::Cache, Source::Memory],
+        method: CHECKSUM,
+        jobs: without_isal([
+            |_, bytes, _| guards(library::checksum::<library::Plain>, bytes),
+            |_, bytes, _| guards(library::checksum::<library::V3>, bytes),
+            |_, bytes, _| guards(peers::guard::<Summed>, bytes),
+            |_, bytes, room| copy_blocks(bytes, room),
+        ]),
+    },
+    Row {
+        name: "full scrub, method 2",
+        unit: "stripe",
+        units: 1,
+        bytes: STRIPE,
+        sources: &[Source::Cache, Source::Memory],
+        method: CHECKSUM,
+        jobs: without_isal([
+            |stripe, bytes, _| library::scrub::<library::Plain>(CHECKSUM, stripe, bytes).number(),
+            |stripe, bytes, _| library::scrub::<library::V3>(CHECKSUM, stripe, bytes).number(),
+            |stripe, bytes, _| peers::scrub::<Summed>(stripe, bytes).number(),
+            |_, bytes, room| copy_stripe(bytes, room),
+        ]),
+    },
+    Row {
+        name: "rebuild of one member, method 2",
+        unit: "stripe",
+        units: 1,
+        bytes: STRIPE,
+        sources: &[Source::Cache, Source::Memory],
+        method: CHECKSUM,
+        jobs: without_isal([
+            |stripe, bytes, _| rebuilt::<library::Plain>(CHECKSUM, stripe, bytes),
+            |stripe, bytes, _| rebuilt::<library::V3>(CHECKSUM, stripe, bytes),
+            |stripe, bytes, _| u64::from(peers::rebuild::<Summed>(stripe, LOST, bytes)),
+            |_, bytes, room| copy_stripe(bytes, room),
+        ]),
     },
 ];
 
-fn rebuilt<A: Archive>(stripe: u64, bytes: &mut [u8]) -> u64 {
-    u64::from(library::rebuild::<A>(stripe, LOST, bytes) == 0)
+fn rebuilt<A: Archive>(method: u8, stripe: u64, bytes: &mut [u8]) -> u64 {
+    u64::from(library::rebuild::<A>(method, stripe, LOST, bytes) == 0)
 }
 
 /// Guards of the first block, each begun when the one before is known: where it starts depends on it.

@@ -3,8 +3,8 @@
 use crate::machine;
 use crate::peers::isal;
 use crate::random::{self, Random};
-use crate::rows::{CONTESTANTS, ISAL, ISAL_V3, MEMCPY, PLAIN, Room, Row, Source, V3};
-use crate::stripes::{MEMBERS, STRIPE, damage, seal};
+use crate::rows::{CONTESTANTS, ISAL, ISAL_V3, Job, MEMCPY, Room, Row, Source, V3};
+use crate::stripes::{CHECKSUM, CRC, MEMBERS, STRIPE, damage, seal};
 use std::hint::black_box;
 use std::time::Instant;
 
@@ -36,10 +36,10 @@ struct Stripes {
 }
 
 impl Stripes {
-    fn new(count: usize, random: &mut Random) -> Self {
+    fn new(method: u8, count: usize, random: &mut Random) -> Self {
         let mut bytes = vec![0; count * STRIPE + 64];
         let from = bytes.as_ptr().align_offset(64);
-        seal(&mut bytes[from..from + count * STRIPE], random);
+        seal(method, &mut bytes[from..from + count * STRIPE], random);
         Stripes { bytes, from }
     }
 
@@ -48,20 +48,35 @@ impl Stripes {
     }
 }
 
-/// The stripes that all rows are measured on.
-pub struct Ground {
+/// The stripes that all rows of a method are measured on.
+struct OfMethod {
     one: Stripes,
     many: Stripes,
     next: usize,
+}
+
+impl OfMethod {
+    fn new(method: u8, random: &mut Random) -> Self {
+        OfMethod {
+            one: Stripes::new(method, 1, random),
+            many: Stripes::new(method, SEGMENT * SEGMENTS, random),
+            next: 0,
+        }
+    }
+}
+
+/// The stripes that all rows are measured on.
+pub struct Ground {
+    crc: OfMethod,
+    checksum: OfMethod,
 }
 
 impl Ground {
     pub fn new() -> Self {
         let mut random = Random::new(random::seed());
         Ground {
-            one: Stripes::new(1, &mut random),
-            many: Stripes::new(SEGMENT * SEGMENTS, &mut random),
-            next: 0,
+            crc: OfMethod::new(CRC, &mut random),
+            checksum: OfMethod::new(CHECKSUM, &mut random),
         }
     }
 
@@ -72,13 +87,17 @@ impl Ground {
     /// The turns of a pass at a row. Keeps the best time of each contestant for one unit, in nanoseconds; none of one that is not here.
     pub fn turns(&mut self, row: &Row, source: Source, best: &mut [Option<f64>; CONTESTANTS]) {
         let mut room = Room::new();
+        let ground = match row.method {
+            CRC => &mut self.crc,
+            _ => &mut self.checksum,
+        };
         for _ in 0..TURNS {
-            for (who, job) in row.jobs.iter().enumerate().filter(|(who, _)| is_here(*who)) {
+            for (who, job) in taking_part(row) {
                 let (from, first, stripes, repeats) = match source {
-                    Source::Cache => (&mut self.one, 0, 1, REPEATS),
+                    Source::Cache => (&mut ground.one, 0, 1, REPEATS),
                     Source::Memory => {
-                        self.next = (self.next + 1) % SEGMENTS;
-                        (&mut self.many, self.next * SEGMENT, SEGMENT, 1)
+                        ground.next = (ground.next + 1) % SEGMENTS;
+                        (&mut ground.many, ground.next * SEGMENT, SEGMENT, 1)
                     }
                 };
                 let time = timed(|| {
@@ -104,6 +123,12 @@ pub fn is_here(who: usize) -> bool {
         ISAL_V3 => isal::VERSION.is_some() && machine::is_v3(),
         _ => true,
     }
+}
+
+/// Who takes part in a row, and with which job.
+fn taking_part(row: &Row) -> impl Iterator<Item = (usize, Job)> {
+    let jobs = row.jobs.iter().enumerate();
+    jobs.filter_map(|(who, job)| job.filter(|_| is_here(who)).map(|job| (who, job)))
 }
 
 /// How long some work takes, in nanoseconds. Every time that this program tells is taken here.
@@ -132,23 +157,24 @@ pub fn keep(best: &mut Option<f64>, time: f64) {
 pub fn compare(row: &Row) {
     let mut random = Random::new(random::seed());
     let mut room = Room::new();
-    let mut stripes = Stripes::new(MEMBERS, &mut random);
+    let mut stripes = Stripes::new(row.method, MEMBERS, &mut random);
     for _ in 0..CASES {
         let number = random.below(MEMBERS);
         let mut before = stripes.stripe(number).to_vec();
-        damage(number as u64, &mut before, &mut random);
-        let mut due = before.clone();
-        let answer = row.jobs[PLAIN](number as u64, &mut due, &mut room);
-        for (who, job) in row.jobs.iter().enumerate().filter(|(who, _)| is_here(*who)) {
+        damage(row.method, number as u64, &mut before, &mut random);
+        // What the first does, the plain archive, is due of all.
+        let mut due = None;
+        for (who, job) in taking_part(row) {
             let mut after = before.clone();
             let found = job(number as u64, &mut after, &mut room);
             if who == MEMCPY {
                 let copied = room.copy[..row.bytes] == before[..row.bytes];
                 assert!(copied && after == before, "{}: memcpy", row.name);
-            } else {
-                assert_eq!(found, answer, "{}: contestant {who}", row.name);
-                assert!(after == due, "{}: contestant {who}", row.name);
+                continue;
             }
+            let (answer, left) = due.get_or_insert((found, after.clone()));
+            assert_eq!(found, *answer, "{}: contestant {who}", row.name);
+            assert!(after == *left, "{}: contestant {who}", row.name);
         }
     }
 }

@@ -1,5 +1,5 @@
-// Every call of the header from C++, on the stripes of the bench table; every field of every answer is looked at. Each buffer that is lent
-// has its exact length on the heap, so that valgrind notices any step beyond.
+// Every call of the header from C++, on the stripes of the bench table and the same by checksum; every field of every answer is looked at. Each
+// buffer that is lent has its exact length on the heap, so that valgrind notices any step beyond.
 #include <algorithm>
 #include <cstdio>
 #include <cstdlib>
@@ -28,55 +28,57 @@ struct Array {
     size_t members;
     uint64_t stripes;
     uint8_t volume;
+    uint8_t method;
 };
 
 static struct irumbolai_place place_of(Array array, uint64_t block)
 {
-    return irumbolai_place(array.members, array.stripes, array.volume, block);
+    return irumbolai_place(array.members, array.stripes, array.volume, array.method, block);
 }
 
 static struct irumbolai_owner owner_at(Array array, uint64_t stripe, size_t member)
 {
-    return irumbolai_owner(array.members, array.stripes, array.volume, stripe, member);
+    return irumbolai_owner(array.members, array.stripes, array.volume, array.method, stripe, member);
 }
 
 static struct irumbolai_check check(Array array, uint64_t stripe, size_t member, const Bytes &block)
 {
-    return irumbolai_check(array.members, array.stripes, array.volume, stripe, member, block.data(), block.size());
+    return irumbolai_check(array.members, array.stripes, array.volume, array.method, stripe, member, block.data(), block.size());
 }
 
 static uint32_t seal(Array array, uint64_t stripe, const Bytes &data, Bytes &bytes)
 {
-    return irumbolai_seal(array.members, array.stripes, array.volume, stripe, data.data(), data.size(), bytes.data(), bytes.size());
+    return irumbolai_seal(array.members, array.stripes, array.volume, array.method, stripe, data.data(), data.size(), bytes.data(), bytes.size());
 }
 
 static struct irumbolai_read read_block(Array array, uint64_t block, const Bytes &bytes, Bytes &out)
 {
-    return irumbolai_read(array.members, array.stripes, array.volume, block, bytes.data(), bytes.size(), out.data(), out.size());
+    return irumbolai_read(array.members, array.stripes, array.volume, array.method, block, bytes.data(), bytes.size(), out.data(), out.size());
 }
 
 static uint32_t rebuild(Array array, uint64_t stripe, size_t member, Bytes &bytes)
 {
-    return irumbolai_rebuild(array.members, array.stripes, array.volume, stripe, member, bytes.data(), bytes.size());
+    return irumbolai_rebuild(array.members, array.stripes, array.volume, array.method, stripe, member, bytes.data(), bytes.size());
 }
 
 static uint32_t update(Array array, uint64_t block, const Bytes &data, Bytes &bytes)
 {
-    return irumbolai_update(array.members, array.stripes, array.volume, block, data.data(), data.size(), bytes.data(), bytes.size());
+    return irumbolai_update(array.members, array.stripes, array.volume, array.method, block, data.data(), data.size(), bytes.data(), bytes.size());
 }
 
 static struct irumbolai_verdict scrub(Array array, uint64_t stripe, const Bytes &bytes)
 {
-    return irumbolai_scrub(array.members, array.stripes, array.volume, stripe, bytes.data(), bytes.size());
+    return irumbolai_scrub(array.members, array.stripes, array.volume, array.method, stripe, bytes.data(), bytes.size());
 }
 
 static struct irumbolai_taken start(Array array, uint64_t stripe, Bytes &work)
 {
-    return irumbolai_start(array.members, array.stripes, array.volume, stripe, work.data(), work.size());
+    return irumbolai_start(array.members, array.stripes, array.volume, array.method, stripe, work.data(), work.size());
 }
 
-// The array of the sealed stripe in the table.
-static const Array three = {3, 1, 7};
+// The array of the sealed stripe in the table, and the same by checksum.
+static const Array three = {3, 1, 7, 1};
+static const Array summed = {3, 1, 7, 2};
 
 // 512 bytes of zeros with these at their end.
 static Bytes ending(std::initializer_list<uint8_t> last)
@@ -149,19 +151,30 @@ static void places()
     DUE(guards.guard[2], 0);
     DUE(guards.guard[15], 0);
 
+    const Bytes digits = {'1', '2', '3', '4', '5', '6', '7', '8'};
+    struct irumbolai_sum sum = irumbolai_checksum(digits.data(), digits.size());
+    DUE(sum.refusal, 0);
+    DUE(sum.guard, 0xF806);
+    sum = irumbolai_checksum(digits.data(), 7);
+    DUE(sum.refusal, 6);
+    DUE(sum.guard, 0);
+    DUE(irumbolai_checksum(digits.data(), 0).guard, 0xFFFF);
+
     DUE(irumbolai_join(0x8BB7, 0x9CD9, 2), 0xE2BF);
     DUE(irumbolai_add_zeros(1, 2), 0x8BB7);
     DUE(irumbolai_remove_zeros(0x8BB7, 2), 1);
     DUE(irumbolai_combine(0x8BB7, 0x9CD9), 0x176E);
 
-    const Array largest = {16, 268435456, 7};
+    const Array largest = {16, 268435456, 7, 1};
     struct irumbolai_place place = place_of(largest, 4026531839);
     DUE(place.refusal, 0);
     DUE(place.member, 14);
     DUE(place.stripe, 268435455);
     DUE(place_of(largest, 4026531840).refusal, 3);
+    DUE(place_of({16, 268435456, 7, 3}, 4026531840).refusal, 12);
+    DUE(place_of({16, 0, 7, 3}, 4026531840).refusal, 2);
 
-    const Array five = {5, 65537, 7};
+    const Array five = {5, 65537, 7, 2};
     struct irumbolai_owner owner = owner_at(five, 65536, 1);
     DUE(owner.refusal, 0);
     DUE(owner.parity, 1);
@@ -191,7 +204,7 @@ static void checks()
     due_field(checked.guard, 0x8BB7, 0x8BB7, 1);
     due_field(checked.application, 7, 7, 1);
     due_field(checked.reference, 0, 1, 0);
-    checked = check({5, 70000, 9}, 65536, 1, joined(ending({3}), {0x12, 0x34, 0x56, 0x78, 0x9A, 0xBC, 0xDE, 0xF0}));
+    checked = check({5, 70000, 9, 1}, 65536, 1, joined(ending({3}), {0x12, 0x34, 0x56, 0x78, 0x9A, 0xBC, 0xDE, 0xF0}));
     DUE(checked.refusal, 0);
     DUE(checked.kind, 1);
     due_field(checked.guard, 0x1234, 0x176E, 0);
@@ -238,6 +251,58 @@ static void jobs()
     DUE(stripe[520 + 512] << 8 | stripe[520 + 513], 0);
 }
 
+// The stripe of the table by checksum: the parity's guard is that of the blocks combined.
+static Bytes sealed_by_sum()
+{
+    Bytes stripe = joined(ending({3}), {0, 3, 0x80, 7, 0, 0, 0, 0});
+    stripe = joined(stripe, joined(ending({1}), {0, 1, 0, 7, 0, 0, 0, 0}));
+    return joined(stripe, joined(ending({2}), {0, 2, 0, 7, 0, 0, 0, 1}));
+}
+
+static void jobs_by_sum()
+{
+    Bytes stripe(1560, 0xFF), out(512, 0xFF);
+    DUE(seal(summed, 0, joined(ending({1}), ending({2})), stripe), 0);
+    DUE(stripe == sealed_by_sum(), true);
+    due_verdict(scrub(summed, 0, stripe), 0, 0, 0, 0);
+
+    // the parity's guard is not checked by itself, but has to fit the others'
+    stripe[513] = 7;
+    struct irumbolai_check checked = check(summed, 0, 0, Bytes(stripe.begin(), stripe.begin() + 520));
+    DUE(checked.refusal, 0);
+    DUE(checked.kind, 0);
+    due_field(checked.guard, 7, 7, 1);
+    due_field(checked.application, 0x8007, 0x8007, 1);
+    due_field(checked.reference, 0, 0, 1);
+    due_verdict(scrub(summed, 0, stripe), 0, 2, 512, 0);
+    const Bytes unfit(stripe);
+    stripe[520] ^= 0x10;
+    DUE(read_block(summed, 0, stripe, out).refusal, 9);
+    DUE(rebuild(summed, 0, 1, stripe), 9);
+    stripe = unfit;
+    DUE(rebuild(summed, 0, 0, stripe), 0);
+    DUE(stripe == sealed_by_sum(), true);
+
+    stripe[520] ^= 0x10;
+    struct irumbolai_read read = read_block(summed, 0, stripe, out);
+    DUE(read.refusal, 0);
+    DUE(read.kind, 1);
+    DUE(out == ending({1}), true);
+    DUE(rebuild(summed, 0, 1, stripe), 0);
+    DUE(stripe == sealed_by_sum(), true);
+
+    // block 0 written anew without the parity: block 1 cannot be rebuilt from that
+    const Bytes zeros(512);
+    Bytes anew(stripe);
+    DUE(update(summed, 0, zeros, anew), 0);
+    DUE(anew[512] << 8 | anew[513], 0xFFFD);
+    DUE(anew[520 + 512] << 8 | anew[520 + 513], 0xFFFF);
+    due_verdict(scrub(summed, 0, anew), 0, 0, 0, 0);
+    std::copy(stripe.begin(), stripe.begin() + 520, anew.begin());
+    due_verdict(scrub(summed, 0, anew), 0, 2, 511, 0);
+    DUE(rebuild(summed, 0, 2, anew), 9);
+}
+
 // The block with data ending in 01 marked as not to be checked.
 static Bytes marked(Bytes stripe)
 {
@@ -281,7 +346,8 @@ static void scrubs()
     due_verdict(scrub(three, 0, stripe), 0, 1, 1, 2, "GAR");
     stripe[514] = 0;
     due_verdict(scrub(three, 0, stripe), 0, 1, 0, 3, "-A-");
-    due_verdict(scrub({3, 0, 7}, 0, stripe), 2, 0, 0, 0);
+    due_verdict(scrub({3, 0, 7, 1}, 0, stripe), 2, 0, 0, 0);
+    due_verdict(scrub({3, 1, 7, 0}, 0, stripe), 12, 0, 0, 0);
     stripe = torn({0x01, 0x8B, 0xB7}, 0, 0);
     due_verdict(scrub(three, 0, stripe), 0, 2, 509, 0);
 
@@ -302,7 +368,7 @@ static void scrubs()
 static void states()
 {
     Bytes work(512, 0xFF), piece = joined(ending({2}), {0xA1, 0xB2, 0xC3});
-    struct irumbolai_taken taken = start({5, 70000, 7}, 65536, work);
+    struct irumbolai_taken taken = start({5, 70000, 7, 1}, 65536, work);
     DUE(taken.refusal, 0);
     DUE(work == Bytes(512), true);
     taken = irumbolai_piece(taken.state, 4, piece.data(), piece.size(), work.data(), work.size());
@@ -311,10 +377,12 @@ static void states()
         DUE(taken.state.members, 5);
         DUE(taken.state.stripes, 70000);
         DUE(taken.state.volume, 7);
+        DUE(taken.state.method, 1);
         DUE(taken.state.stripe, 65536);
         for (int i = 0; i < 16; i++) {
             DUE(taken.state.at[i], i == 4 ? 515 : 0);
             DUE(taken.state.register_[i], i == 4 ? 0x9CD9 : 0);
+            DUE(taken.state.waiting[i], 0);
         }
         for (int i = 0; i < 128; i++)
             DUE(taken.state.tag[i], i == 32 ? 0xA1 : i == 33 ? 0xB2 : i == 34 ? 0xC3 : 0);
@@ -324,15 +392,56 @@ static void states()
     DUE(irumbolai_piece(taken.state, 5, piece.data(), 0, work.data(), work.size()).refusal, 5);
     due_verdict(irumbolai_finish(taken.state, work.data(), work.size()), 8, 0, 0, 0);
     due_verdict(irumbolai_finish(taken.state, work.data(), 511), 6, 0, 0, 0);
+    taken.state.method = 3;
+    due_verdict(irumbolai_finish(taken.state, work.data(), work.size()), 4, 0, 0, 0);
+    taken.state.method = 1;
     taken.state.members = 2;
     due_verdict(irumbolai_finish(taken.state, work.data(), work.size()), 4, 0, 0, 0);
 }
 
-// A stripe in pieces of at most seven bytes, each a buffer of its own, the last member first.
-static struct irumbolai_verdict scanned(const Bytes &stripe)
+// A byte that waits for its pair: at an odd place of the data, by checksum, and nowhere else.
+static void waiting()
 {
     Bytes work(512, 0xFF);
-    struct irumbolai_taken taken = start(three, 0, work);
+    const Bytes piece = {0x12, 0x34, 0x56}, last = {0x78};
+    struct irumbolai_taken taken = start({5, 70000, 7, 2}, 65536, work);
+    DUE(taken.refusal, 0);
+    DUE(taken.state.method, 2);
+    for (int i = 0; i < 16; i++)
+        DUE(taken.state.register_[i], 0xFFFF);
+    taken = irumbolai_piece(taken.state, 3, piece.data(), piece.size(), work.data(), work.size());
+    DUE(taken.refusal, 0);
+    for (int i = 0; i < 16; i++) {
+        DUE(taken.state.at[i], i == 3 ? 3 : 0);
+        DUE(taken.state.register_[i], i == 3 ? 0x1234 : 0xFFFF);
+        DUE(taken.state.waiting[i], i == 3 ? 0x56 : 0);
+    }
+    const struct irumbolai_scan odd = taken.state;
+    taken = irumbolai_piece(odd, 3, last.data(), last.size(), work.data(), work.size());
+    DUE(taken.refusal, 0);
+    DUE(taken.state.at[3], 4);
+    DUE(taken.state.register_[3], 0x7AE0);
+    DUE(taken.state.waiting[3], 0);
+
+    struct irumbolai_scan unfit = taken.state;
+    unfit.waiting[3] = 1;
+    DUE(irumbolai_piece(unfit, 3, last.data(), 0, work.data(), work.size()).refusal, 4);
+    unfit = odd;
+    unfit.method = 1;
+    DUE(irumbolai_piece(unfit, 3, last.data(), 0, work.data(), work.size()).refusal, 4);
+    unfit = odd;
+    unfit.at[3] = 513;
+    DUE(irumbolai_piece(unfit, 3, last.data(), 0, work.data(), work.size()).refusal, 4);
+    unfit = odd;
+    unfit.waiting[5] = 1;
+    DUE(irumbolai_piece(unfit, 3, last.data(), 0, work.data(), work.size()).refusal, 0);
+}
+
+// A stripe in pieces of at most seven bytes, each a buffer of its own, the last member first.
+static struct irumbolai_verdict scanned(const Bytes &stripe, Array array = three)
+{
+    Bytes work(512, 0xFF);
+    struct irumbolai_taken taken = start(array, 0, work);
     for (size_t at = 0; at < 520; at += 7)
         for (size_t member = 3; member-- > 0;) {
             const uint8_t *block = stripe.data() + 520 * member;
@@ -348,9 +457,11 @@ int main()
     places();
     checks();
     jobs();
+    jobs_by_sum();
     unchecked();
     scrubs();
     states();
+    waiting();
     due_verdict(scanned(sealed()), 0, 0, 0, 0);
     due_verdict(scanned(torn({0x01, 0x8B, 0xB6}, 0x8B, 0xB7)), 0, 2, 509, 0);
     due_verdict(scanned(torn({0x01, 0x8B, 0xB6}, 0x8B, 0xB6)), 0, 1, 0, 1, "G--");
@@ -360,6 +471,12 @@ int main()
     spoilt[2 * 520 + 512] ^= 0x80;
     spoilt[2 * 520 + 519] ^= 1;
     due_verdict(scanned(spoilt), 0, 1, 2, 1, "G-R");
+    due_verdict(scanned(sealed_by_sum(), summed), 0, 0, 0, 0);
+    Bytes unfit = sealed_by_sum();
+    unfit[513] ^= 4;
+    due_verdict(scanned(unfit, summed), 0, 2, 512, 0);
+    unfit[520] ^= 1;
+    due_verdict(scanned(unfit, summed), 0, 1, 1, 1, "G--");
     std::printf("every call from C++, %d values as due\n", compared);
     return 0;
 }

@@ -1,12 +1,15 @@
 //! The bench figures of paper 01, the guards that SBC-3 publishes and worked joins, run through the model alone.
 
 use crate::random::Random;
+use model::checksum::{START, Sum, checksum};
 use model::guard::{go_on, guard};
 use model::join;
 use model::layout::{Array, Owner, Place};
 use model::report;
-use model::scan::History;
-use model::stripe::{self, BLOCK, Checked, DATA, Field, Fields, Fits, Source, Verdict};
+use model::scan::{self, History, Scan};
+use model::stripe::{
+    self, BLOCK, Checked, DATA, Field, Fields, Fits, Source, Verdict, guard_of, stored_guards,
+};
 use std::fmt::Debug;
 
 /// Figures that were right, or the first that was not.
@@ -51,6 +54,188 @@ impl Figures {
             stripe::quick_scrub(&[9, 4, 8, 0xC]),
             Ok(9),
         )
+    }
+
+    /// Checksums worked by hand, of words that carry and words that rotate, and the document's own code on blocks.
+    fn checksums(&mut self, random: &mut Random) -> Result<(), String> {
+        let rows: [(&[u8], u16); 12] = [
+            (&[], 0xFFFF),
+            (&[0x00, 0x00], 0xFFFF),
+            (&[0xFF, 0xFF], 0xFFFF),
+            (&[0x00, 0x01], 0x0001),
+            (&[0xFF, 0xFE], 0xFFFE),
+            (&[0x00, 0x01, 0x00, 0x00], 0x0002),
+            (&[0x80, 0x00, 0x00, 0x00], 0x0001),
+            (&[0x80, 0x00, 0xFF, 0xFF], 0x0001),
+            (&[0x00, 0x01, 0xFF, 0xFD], 0xFFFF),
+            (&[0x12, 0x34, 0x00, 0x01], 0x2469),
+            (&[0xFE, 0xDC, 0xBA, 0x98], 0xB852),
+            (b"12345678", 0xF806),
+        ];
+        for (bytes, due) in rows {
+            self.due("checksum", checksum(bytes), Ok(due))?;
+            self.due("checksum by bytes", by_bytes(bytes), (due, None))?;
+            let odd = [bytes, &[0x5A]].concat();
+            self.due("checksum, odd", checksum(&odd), Err(6))?;
+            self.due("a byte waits", by_bytes(&odd), (due, Some(0x5A)))?;
+        }
+        for _ in 0..100 {
+            let block = random.bytes(DATA);
+            self.due(
+                "suggested code",
+                suggested(&block),
+                checksum(&block).expect("whole words"),
+            )?;
+        }
+        Ok(())
+    }
+
+    /// A method that is none is refused after members and stripes, and before all else.
+    fn methods(&mut self) -> Result<(), String> {
+        let none = |method| Array {
+            method,
+            ..array(3, 1)
+        };
+        for method in [0, 3, 4, 255] {
+            let none = none(method);
+            self.due("no method", none.fits(), Err(12))?;
+            let few = Array { members: 2, ..none };
+            self.due("few members go first", few.fits(), Err(1))?;
+            let far = Array { stripes: 0, ..none };
+            self.due("no stripes go first", far.fits(), Err(2))?;
+            self.due("a far block goes later", none.place(2), Err(12))?;
+            self.due("a far stripe goes later", none.owner(1, 3), Err(12))?;
+            let scrubbed = stripe::scrub(&none, 0, &[]);
+            self.due("a wrong length goes later", scrubbed, Err(12))?;
+            let started = scan::start(&none, 0, &[0; DATA]);
+            self.due("start, no method", started, Err(12))?;
+            let state = Scan {
+                members: 3,
+                stripes: 1,
+                method,
+                ..Scan::ZEROS
+            };
+            let finished = scan::finish(&state, &[0; DATA]);
+            self.due("finish, no method", finished, Err(4))?;
+            let piece = scan::piece(&state, 3, &[], &[]);
+            self.due("piece, no method", piece, Err(4))?;
+            let image = [&report::header_of(2, &none)[..], &sealed()].concat();
+            let due = String::from("REFUSED 12\n");
+            self.due("header, no method", report::report(&image), due)?;
+        }
+        for method in [1, 2] {
+            self.due("a method", none(method).fits(), Ok(()))?;
+        }
+        Ok(())
+    }
+
+    /// The bench's stripe by method 2.
+    fn summed_stripe(&mut self) -> Result<(), String> {
+        let three = summed(3, 1);
+        let sealed = sealed_in(&three);
+        self.due("summed parity", &sealed[508..DATA], &[0, 0, 0, 3])?;
+        for (member, tag) in [
+            (0, [0x00, 0x03, 0x80, 7, 0, 0, 0, 0]),
+            (1, [0x00, 0x01, 0x00, 7, 0, 0, 0, 0]),
+            (2, [0x00, 0x02, 0x00, 7, 0, 0, 0, 1]),
+        ] {
+            let block = &sealed[stripe::span(member)];
+            self.due("summed tag", &block[DATA..], &tag)?;
+        }
+        let scrubbed = stripe::scrub(&three, 0, &sealed);
+        self.due("summed scrub", scrubbed, Ok(Verdict::Clean))?;
+        let updated = stripe::update(&three, 0, &[0; DATA], &sealed).expect("good blocks");
+        let guards = stored_guards(&updated);
+        self.due("updated sums", guards, vec![0xFFFD, 0xFFFF, 0x0002])?;
+        let parity = &updated[..BLOCK];
+        self.due("its own", guard_of(&three, &parity[..DATA]), 0x0002)?;
+        let numbers = [0xFFFD, 0x8007, 0];
+        let said = stripe::check(&three, 0, 0, parity);
+        let good = Checked::Good(fields(numbers, numbers));
+        self.due("the parity's guard as found", said, Ok(good))?;
+        let scrubbed = stripe::scrub(&three, 0, &updated);
+        self.due("updated scrub", scrubbed, Ok(Verdict::Clean))?;
+        for member in 0..3 {
+            let mut lost = updated.clone();
+            lost[stripe::span(member)].fill(0);
+            let rebuilt = stripe::rebuild(&three, 0, member, &lost);
+            self.due("rebuilt by sums", rebuilt, Ok(updated.clone()))?;
+        }
+        let header = [0x00, 0x08, 0x02, 0x03, 0x07, 0x00, 0x00, 0x00, 0x01, 0x02];
+        self.due("header 2", &report::header(&three)[..], &header)?;
+        for (image, line) in [
+            ([&header[..], &sealed].concat(), "CLEAN"),
+            ([&header[..9], &[1], &self::sealed()].concat(), "CLEAN"),
+        ] {
+            let due = format!(
+                "SCRUB v1 members 3 stripes 1\n0 {line}\nTOTAL 1 clean 1 bad 0 unchecked 0 torn 0\n"
+            );
+            self.due("report, version 2", report::report(&image), due)?;
+        }
+        for length in 0..header.len() {
+            let report = report::report(&header[..length]);
+            self.due("short", report, String::from("REFUSED 10\n"))?;
+        }
+        Ok(())
+    }
+
+    /// The parity's guard changed: nothing is bad, the stripe is torn by its guards alone, and no block with data is made of the others.
+    fn torn_guards(&mut self) -> Result<(), String> {
+        let three = summed(3, 1);
+        let mut bytes = sealed_in(&three);
+        bytes[DATA] ^= 0x80;
+        let torn = Verdict::Torn { place: 512 };
+        self.due("guards torn", stripe::scrub(&three, 0, &bytes), Ok(torn))?;
+        let image = [&report::header(&three)[..], &bytes].concat();
+        self.due(
+            "its report",
+            &report::report(&image)[..],
+            "SCRUB v1 members 3 stripes 1\n0 TORN 512\nTOTAL 1 clean 0 bad 0 unchecked 0 torn 1\n",
+        )?;
+        let rebuilt = stripe::rebuild(&three, 0, 0, &bytes);
+        self.due("its parity", rebuilt, Ok(sealed_in(&three)))?;
+        for member in [1, 2] {
+            let rebuilt = stripe::rebuild(&three, 0, member, &bytes);
+            self.due("its members", rebuilt, Err(9))?;
+        }
+        bytes[stripe::span(2)][0] ^= 1;
+        let read = stripe::read(&three, 1, &bytes, &[0; DATA]);
+        self.due("its bad member read", read, Err(9))?;
+        let bad = Verdict::Bad {
+            member: 2,
+            count: 1,
+            fits: Fits {
+                guard: false,
+                ..Fits::ALL
+            },
+        };
+        self.due("bad goes first", stripe::scrub(&three, 0, &bytes), Ok(bad))
+    }
+
+    /// A scan by method 2: where its registers start, and a byte that waits.
+    fn summed_pieces(&mut self) -> Result<(), String> {
+        let three = summed(3, 1);
+        let (start, work) = scan::start(&three, 0, &[1; DATA]).expect("fit");
+        let registers = [start.register, [0xFFFF; 16]];
+        self.due("start of sums", registers[0], registers[1])?;
+        self.due("nothing waits", start.waiting, [0; 16])?;
+        let (odd, work) = scan::piece(&start, 1, &[0x12], &work).expect("fit");
+        let found = (odd.at[1], odd.register[1], odd.waiting[1]);
+        self.due("one byte", found, (1, 0xFFFF, 0x12))?;
+        let four = [0x34, 0x00, 0x01, 0x56];
+        let (even, _) = scan::piece(&odd, 1, &four, &work).expect("fit");
+        let found = (even.at[1], even.register[1], even.waiting[1]);
+        self.due("five bytes", found, (5, 0x2469, 0x56))?;
+        let mut astray = start;
+        astray.waiting[2] = 1;
+        let finished = scan::finish(&astray, &work);
+        self.due("a byte waits at 0", finished, Err(4))?;
+        astray.at[2] = 1;
+        let finished = scan::finish(&astray, &work);
+        self.due("a byte waits at 1", finished, Err(8))?;
+        astray.method = 1;
+        let finished = scan::finish(&astray, &work);
+        self.due("a byte waits by method 1", finished, Err(4))
     }
 
     fn joins(&mut self) -> Result<(), String> {
@@ -151,7 +336,7 @@ impl Figures {
 
     fn report(&mut self) -> Result<(), String> {
         let header = [0x00, 0x07, 0x01, 0x03, 0x07, 0x00, 0x00, 0x00, 0x01];
-        self.due("header", report::header(&array(3, 1)), header)?;
+        self.due("header", &report::header(&array(3, 1))[..], &header)?;
         self.due(
             "report",
             &report::report(&[&header[..], &sealed()].concat())[..],
@@ -165,7 +350,10 @@ impl Figures {
             let mut parity = [0; DATA];
             parity[DATA - 3..].copy_from_slice(&ending);
             let data = [parity, [0; DATA], [0; DATA]];
-            let tagged = |member: usize| stripe::tagged(&three, 0, member, &data[member]);
+            let tagged = |member: usize| {
+                let (data, guard) = (&data[member], guard(&data[member]));
+                stripe::tagged(&three, 0, member, data, guard)
+            };
             let bytes: Vec<u8> = (0..3).flat_map(tagged).collect();
             let quick = stripe::quick_scrub(&stripe::stored_guards(&bytes));
             self.due(
@@ -334,7 +522,26 @@ fn array(members: usize, stripes: u64) -> Array {
         members,
         stripes,
         volume: 7,
+        method: 1,
     }
+}
+
+/// The same array, its guards checksums.
+fn summed(members: usize, stripes: u64) -> Array {
+    Array {
+        method: 2,
+        ..array(members, stripes)
+    }
+}
+
+/// The checksum by single bytes, and the byte that waits.
+fn by_bytes(bytes: &[u8]) -> (u16, Option<u8>) {
+    let start = Sum {
+        value: START,
+        waiting: None,
+    };
+    let sum = bytes.iter().fold(start, |sum, byte| sum.go_on(*byte));
+    (sum.value, sum.waiting)
 }
 
 /// Guard, application tag and reference tag as found and as expected.
@@ -352,15 +559,36 @@ fn fields(found: [u64; 3], expected: [u64; 3]) -> Fields {
 
 /// The bench's stripe: zeros, but for the last bytes 01 and 02.
 fn sealed() -> Vec<u8> {
+    sealed_in(&array(3, 1))
+}
+
+fn sealed_in(array: &Array) -> Vec<u8> {
     let mut data = [0; 2 * DATA];
     data[DATA - 1] = 1;
     data[2 * DATA - 1] = 2;
-    stripe::seal(&array(3, 1), 0, &data, &[0; 3 * BLOCK]).expect("numbers that fit")
+    stripe::seal(array, 0, &data, &[0; 3 * BLOCK]).expect("numbers that fit")
 }
 
-pub fn check(_: &mut Random) -> Result<String, String> {
+/// The code that document 000 suggests for a block, carries wrapped after every eight words, with its shift as it is meant.
+fn suggested(block: &[u8]) -> u16 {
+    let mut sum: u32 = 0xFFFF;
+    for eight in block.chunks(16) {
+        for word in eight.chunks(2) {
+            sum = (sum << 1) + u32::from(word[0]) * 256 + u32::from(word[1]);
+        }
+        sum = (sum & 0xFFFF) + (sum >> 16);
+    }
+    ((sum & 0xFFFF) + (sum >> 16)) as u16
+}
+
+pub fn check(random: &mut Random) -> Result<String, String> {
     let mut figures = Figures { right: 0 };
     figures.guards()?;
+    figures.checksums(random)?;
+    figures.methods()?;
+    figures.summed_stripe()?;
+    figures.torn_guards()?;
+    figures.summed_pieces()?;
     figures.joins()?;
     figures.places()?;
     figures.sealed_stripe()?;

@@ -81,27 +81,35 @@ pub struct Guards {
     pub guard: [u16; 16],
 }
 
+#[repr(C)]
+#[derive(Clone, Copy, Debug, PartialEq)]
+pub struct Sum {
+    pub refusal: u32,
+    pub guard: u32,
+}
+
 mod c {
-    use super::{Check, Guards, Owner, Place, Quick, Read, Scan, Taken, Verdict};
+    use super::{Check, Guards, Owner, Place, Quick, Read, Scan, Sum, Taken, Verdict};
 
     #[rustfmt::skip]
     unsafe extern "C" {
         pub fn irumbolai_guard(bytes: *const u8, length: usize) -> u16;
         pub fn irumbolai_guards(bytes: *const u8, length: usize, stride: usize) -> Guards;
+        pub fn irumbolai_checksum(bytes: *const u8, length: usize) -> Sum;
         pub fn irumbolai_join(a: u16, b: u16, length_of_b: u32) -> u16;
         pub fn irumbolai_add_zeros(guard: u16, n: u32) -> u16;
         pub fn irumbolai_remove_zeros(guard: u16, n: u32) -> u16;
         pub fn irumbolai_combine(a: u16, b: u16) -> u16;
-        pub fn irumbolai_place(members: usize, stripes: u64, volume: u8, block: u64) -> Place;
-        pub fn irumbolai_owner(members: usize, stripes: u64, volume: u8, stripe: u64, member: usize) -> Owner;
-        pub fn irumbolai_check(members: usize, stripes: u64, volume: u8, stripe: u64, member: usize, block: *const u8, length: usize) -> Check;
-        pub fn irumbolai_seal(members: usize, stripes: u64, volume: u8, stripe: u64, data: *const u8, data_length: usize, bytes: *mut u8, length: usize) -> u32;
-        pub fn irumbolai_read(members: usize, stripes: u64, volume: u8, block: u64, bytes: *const u8, length: usize, out: *mut u8, out_length: usize) -> Read;
-        pub fn irumbolai_rebuild(members: usize, stripes: u64, volume: u8, stripe: u64, member: usize, bytes: *mut u8, length: usize) -> u32;
-        pub fn irumbolai_update(members: usize, stripes: u64, volume: u8, block: u64, data: *const u8, data_length: usize, bytes: *mut u8, length: usize) -> u32;
-        pub fn irumbolai_scrub(members: usize, stripes: u64, volume: u8, stripe: u64, bytes: *const u8, length: usize) -> Verdict;
+        pub fn irumbolai_place(members: usize, stripes: u64, volume: u8, method: u8, block: u64) -> Place;
+        pub fn irumbolai_owner(members: usize, stripes: u64, volume: u8, method: u8, stripe: u64, member: usize) -> Owner;
+        pub fn irumbolai_check(members: usize, stripes: u64, volume: u8, method: u8, stripe: u64, member: usize, block: *const u8, length: usize) -> Check;
+        pub fn irumbolai_seal(members: usize, stripes: u64, volume: u8, method: u8, stripe: u64, data: *const u8, data_length: usize, bytes: *mut u8, length: usize) -> u32;
+        pub fn irumbolai_read(members: usize, stripes: u64, volume: u8, method: u8, block: u64, bytes: *const u8, length: usize, out: *mut u8, out_length: usize) -> Read;
+        pub fn irumbolai_rebuild(members: usize, stripes: u64, volume: u8, method: u8, stripe: u64, member: usize, bytes: *mut u8, length: usize) -> u32;
+        pub fn irumbolai_update(members: usize, stripes: u64, volume: u8, method: u8, block: u64, data: *const u8, data_length: usize, bytes: *mut u8, length: usize) -> u32;
+        pub fn irumbolai_scrub(members: usize, stripes: u64, volume: u8, method: u8, stripe: u64, bytes: *const u8, length: usize) -> Verdict;
         pub fn irumbolai_quick_scrub(guards: *const u16, count: usize) -> Quick;
-        pub fn irumbolai_start(members: usize, stripes: u64, volume: u8, stripe: u64, work: *mut u8, work_length: usize) -> Taken;
+        pub fn irumbolai_start(members: usize, stripes: u64, volume: u8, method: u8, stripe: u64, work: *mut u8, work_length: usize) -> Taken;
         pub fn irumbolai_piece(state: Scan, member: usize, bytes: *const u8, length: usize, work: *mut u8, work_length: usize) -> Taken;
         pub fn irumbolai_finish(state: Scan, work: *const u8, work_length: usize) -> Verdict;
     }
@@ -113,7 +121,7 @@ mod c {
 /// A call on an array, whose numbers go first, one by one. No call is handed them elsewhere.
 macro_rules! on_array {
     ($call:ident, $array:ident, $($rest:expr),+) => {
-        unsafe { c::$call($array.members, $array.stripes, $array.volume, $($rest),+) }
+        unsafe { c::$call($array.members, $array.stripes, $array.volume, $array.method, $($rest),+) }
     };
 }
 
@@ -128,6 +136,15 @@ pub fn guards(bytes: &Lent<u8>, stride: usize) -> [u16; 16] {
 /// The guard of bytes where they lie.
 pub fn guard_at(bytes: &[u8]) -> u16 {
     unsafe { c::irumbolai_guard(bytes.as_ptr(), bytes.len()) }
+}
+
+pub fn checksum(bytes: &Lent<u8>) -> Sum {
+    unsafe { c::irumbolai_checksum(bytes.pointer(), bytes.length()) }
+}
+
+/// The checksum of bytes where they lie.
+pub fn checksum_at(bytes: &[u8]) -> Sum {
+    unsafe { c::irumbolai_checksum(bytes.as_ptr(), bytes.len()) }
 }
 
 pub fn join(a: u16, b: u16, length_of_b: u32) -> u16 {

@@ -18,6 +18,7 @@ type Comparison = fn(&mut Random) -> Result<String, String>;
 const PARTS: &[(&str, Comparison)] = &[
     ("figures", figures::check),
     ("guard", compare::guard::compare),
+    ("checksum", compare::checksum::compare),
     ("join", compare::join::compare),
     ("layout", compare::layout::compare),
     ("tag", compare::tag::compare),
@@ -27,6 +28,7 @@ const PARTS: &[(&str, Comparison)] = &[
     ("scan", compare::scan::compare),
     ("standing", compare::standing::compare),
     ("faults", compare::faults::compare),
+    ("write hole", compare::write_hole::compare),
     ("images", compare::images::compare),
     ("large image", compare::large::compare),
 ];

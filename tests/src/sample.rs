@@ -1,27 +1,32 @@
-//! Writes a small image to standard output: five members and six stripes, of which two are clean.
+//! Writes a small image to standard output: five members and a stripe for each kind of verdict, with the guards of the method that is named, 1 or 2.
 
 use model::layout::Array;
 use model::report;
 use model::stripe::{self, APPLICATION, BLOCK, DATA, UNCHECKED};
+use std::env;
 use std::io::{self, Write};
 
-const ARRAY: Array = Array {
-    members: 5,
-    stripes: 6,
-    volume: 7,
-};
+/// The array of a method. Method 2 has a verdict more, and a stripe for it.
+fn array_of(method: u8) -> Array {
+    Array {
+        members: 5,
+        stripes: 5 + u64::from(method),
+        volume: 7,
+        method,
+    }
+}
 
 /// A sealed stripe, each of whose data blocks counts up from another byte.
-fn sealed(number: u64) -> Vec<u8> {
-    let places = 0..ARRAY.data_members() * DATA;
+fn sealed(array: &Array, number: u64) -> Vec<u8> {
+    let places = 0..array.data_members() * DATA;
     let data: Vec<u8> = places
         .map(|place| (place + place / DATA + 16 * number as usize) as u8)
         .collect();
-    let room = vec![0; ARRAY.members * BLOCK];
-    stripe::seal(&ARRAY, number, &data, &room).expect("numbers that fit")
+    let room = vec![0; array.members * BLOCK];
+    stripe::seal(array, number, &data, &room).expect("numbers that fit")
 }
 
-fn damage(number: u64, bytes: &mut [u8]) {
+fn damage(array: &Array, number: u64, bytes: &mut [u8]) {
     match number {
         // A bit of member 3 has changed.
         1 => bytes[stripe::span(3)][100] ^= 1,
@@ -40,18 +45,26 @@ fn damage(number: u64, bytes: &mut [u8]) {
         4 => {
             let block = &mut bytes[stripe::span(2)];
             block[509] ^= 1;
-            let tagged = stripe::tagged(&ARRAY, number, 2, &block[..DATA]);
+            let guard = stripe::guard_of(array, &block[..DATA]);
+            let tagged = stripe::tagged(array, number, 2, &block[..DATA], guard);
             block.copy_from_slice(&tagged);
         }
+        // By method 2 a bit of the parity's guard has changed, which nobody checks by itself.
+        5 if array.method == 2 => bytes[stripe::span(array.parity_member(number))][DATA] ^= 1,
         _ => {}
     }
 }
 
 fn main() -> io::Result<()> {
-    let mut image = report::header(&ARRAY).to_vec();
-    for number in 0..ARRAY.stripes {
-        let mut bytes = sealed(number);
-        damage(number, &mut bytes);
+    let array = match env::args().skip(1).collect::<Vec<_>>()[..] {
+        [ref method] if method == "1" => array_of(1),
+        [ref method] if method == "2" => array_of(2),
+        _ => return Err(io::Error::other("one word wanted: the method, 1 or 2")),
+    };
+    let mut image = report::header(&array);
+    for number in 0..array.stripes {
+        let mut bytes = sealed(&array, number);
+        damage(&array, number, &mut bytes);
         image.extend(bytes);
     }
     io::stdout().write_all(&image)

@@ -1,5 +1,6 @@
 pub mod Reduced
 pub mod Words
+pub mod Even
 pub mod Weighed
 pub mod Carries
 pub mod Noticed

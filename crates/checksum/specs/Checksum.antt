@@ -20,8 +20,8 @@ taken sum word = wrapped (rotated sum + word)
 unfoldable pub word : ℕ → ℕ → ℕ
 word a b = a % 256 * 256 + b % 256
 
--- the words of a run of bytes; a last byte that has no pair is in none: in the machine it waits, and a call for the checksum of such a run alone is
--- to be refused above this crate
+-- the words of a run of bytes; a last byte that has no pair is in none: in the machine it waits, and asked for by itself such a run is refused
+-- (Asked.antt)
 unfoldable pub words : List ℕ → List ℕ
 words [] = []
 words (a ∷ []) = []

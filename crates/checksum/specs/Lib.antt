@@ -1,5 +1,6 @@
 pub mod Checksum
 pub mod Machine
+pub mod Asked
 pub mod Changes
 pub mod Many
 pub mod Weights

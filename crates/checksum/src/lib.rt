@@ -1,8 +1,11 @@
 // The rotating checksum of sixteen-bit words: the sum is rotated left by one bit, then takes the next word in, the carry wrapped round. Here are
-// one word, and a block of 512 bytes by 32 lanes; `machine` takes any run of them, in pieces or whole, and `many` sixteen blocks.
+// one word, and a block of 512 bytes by 32 lanes; `machine` takes any run of them, in pieces or whole, `many` sixteen blocks, and
+// `asked` a run that is asked for by itself.
+mod asked;
 mod machine;
 mod many;
 
+pub use asked::sum;
 pub use machine::advance;
 pub use machine::checksum;
 pub use machine::start;
@@ -18,6 +21,12 @@ ghost use Rattle.checksum.specs.Lanes.{pairs, stack, lanesOf};
 pub struct Register {
     pub value: u16,
     pub waiting: u8,
+}
+
+// The checksum asked for by itself: refused, or the guard that it is.
+pub enum Summed {
+    Refused(u8),
+    Sum { guard: u16 },
 }
 
 // The sum with one word more, which comes as two bytes.

@@ -18,7 +18,7 @@ done stripe member = 1 ∷ 0 ∷ stripe ∷ member ∷ []
 
 -- five members, as many stripes as an array can have
 abbrev pub five : Array
-five = arrayOf 5 268435456 0
+five = arrayOf 5 268435456 0 1
 
 pub record Bench : Type 0 where
   pub guard-none : guard [] ≡ 0x0000

@@ -24,7 +24,7 @@ pub fn bench() {
 }
 
 fn array(members: usize) -> Array {
-    layout::array_of(members, MOST, 0)
+    layout::array_of(members, MOST, 0, 1)
 }
 
 // One line: what is given, and its stripe and member, or the refusal.

@@ -1,4 +1,4 @@
-// Stripes of the bench table: one sealed, updated, then marked, then changed, and two torn ones.
+// Stripes of the bench table: one sealed, updated, then marked, then changed, by either guard method; and torn ones.
 use crate::text::four_digits;
 use crate::text::named;
 use crate::text::two_digits;
@@ -11,62 +11,80 @@ use verdict::Scrubbed;
 use verdict::Verdict;
 
 // Three members, one stripe, volume 7.
-fn three() -> Array {
-    layout::array_of(3, 1, 7)
+fn three(method: u8) -> Array {
+    layout::array_of(3, 1, 7, method)
 }
 
 // Data zero but for the last bytes 01 and 02; then block 0 updated to zeros; then its application tag set to FFFFh; then the
 // tag as it was and the last byte of the data changed.
-pub fn sealed() {
+pub fn sealed(title: &[u8], method: u8) {
+    let array = three(method);
     let mut content = [0u8; 1024];
     content[511] = 1;
     content[1023] = 2;
     let mut bytes = [0u8; 1560];
-    io::write_all(STDOUT_FILENO, b"\nsealed stripe, tag of        is\n");
-    stripe::seal(three(), 0, &content, &mut bytes);
-    shown(&bytes);
+    io::write_all(STDOUT_FILENO, title);
+    stripe::seal(array, 0, &content, &mut bytes);
+    shown(array, &bytes);
     io::write_all(STDOUT_FILENO, b"block 0 updated, tag of      is\n");
     let zeros = [0u8; 512];
-    stripe::update(three(), 0, &zeros, &mut bytes);
-    shown(&bytes);
+    stripe::update(array, 0, &zeros, &mut bytes);
+    shown(array, &bytes);
     bytes[1034] = 0xFF;
     bytes[1035] = 0xFF;
     io::write_all(STDOUT_FILENO, b"block 0 marked, tag of       is\n");
-    shown(&bytes);
+    shown(array, &bytes);
     bytes[1034] = 0;
     bytes[1035] = 7;
     bytes[1031] = 1;
     io::write_all(STDOUT_FILENO, b"block 0 changed, tag of      is\n");
-    shown(&bytes);
+    shown(array, &bytes);
 }
 
 // A stripe's tags, how its first block reads, and its verdict.
-fn shown(bytes: &[u8]) {
+fn shown(array: Array, bytes: &[u8]) {
     tags(bytes);
-    reading(bytes);
-    verdict(bytes);
+    reading(array, bytes);
+    verdict(array, bytes);
 }
 
 // All data zero, but for the end of the parity, whose tag fits: a difference of seventeen bits, then one of sixteen.
 pub fn torn() {
+    let array = three(1);
     let content = [0u8; 1024];
     let mut bytes = [0u8; 1560];
-    stripe::seal(three(), 0, &content, &mut bytes);
+    stripe::seal(array, 0, &content, &mut bytes);
     bytes[509] = 0x01;
     bytes[510] = 0x8B;
     bytes[511] = 0xB7;
     io::write_all(STDOUT_FILENO, b"\nparity ends 01 8B B7\n");
-    scrubs(&bytes);
+    scrubs(array, &bytes);
     bytes[511] = 0xB6;
     bytes[512] = 0x8B;
     bytes[513] = 0xB7;
     io::write_all(STDOUT_FILENO, b"parity ends 01 8B B6\n");
-    scrubs(&bytes);
+    scrubs(array, &bytes);
+}
+
+// A stripe sealed by checksum, then another guard in the parity's tag: the blocks do not belong together, and one that is lost then is not rebuilt.
+pub fn unfit() {
+    let array = three(2);
+    let mut content = [0u8; 1024];
+    content[511] = 1;
+    content[1023] = 2;
+    let mut bytes = [0u8; 1560];
+    stripe::seal(array, 0, &content, &mut bytes);
+    bytes[513] = 7;
+    io::write_all(STDOUT_FILENO, b"\nby checksum, parity's guard 0007\n");
+    scrubs(array, &bytes);
+    bytes[1031] = 0;
+    reading(array, &bytes);
+    verdict(array, &bytes);
 }
 
 // Both scrubs of a stripe.
-fn scrubs(bytes: &[u8]) {
-    verdict(bytes);
+fn scrubs(array: Array, bytes: &[u8]) {
+    verdict(array, bytes);
     quick(bytes);
 }
 
@@ -98,10 +116,10 @@ fn byte(bytes: &[u8], at: usize) {
 }
 
 // How block 0 reads, and its last byte.
-fn reading(bytes: &[u8]) {
+fn reading(array: Array, bytes: &[u8]) {
     let mut out = [0u8; 512];
     io::write_all(STDOUT_FILENO, b"block 0 reads                ");
-    let read = stripe::read(three(), 0, bytes, &mut out);
+    let read = stripe::read(array, 0, bytes, &mut out);
     let last = wide(out[511]);
     match read {
         Reading::Refused(number) => named(b"refusal ", number as u64),
@@ -117,9 +135,9 @@ fn wide(byte: u8) -> u64 {
 }
 
 // The verdict of the full scrub.
-fn verdict(bytes: &[u8]) {
+fn verdict(array: Array, bytes: &[u8]) {
     io::write_all(STDOUT_FILENO, b"scrub                        ");
-    let scrubbed = stripe::scrub(three(), 0, bytes);
+    let scrubbed = stripe::scrub(array, 0, bytes);
     match scrubbed {
         Scrubbed::Refused(number) => named(b"refusal ", number as u64),
         Scrubbed::Found(found) => finding(found),

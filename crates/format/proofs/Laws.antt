@@ -3,11 +3,11 @@ use mathlib.Core.Path.{_≡_, refl, sym, ap, ap₂, _∙_}
 use mathlib.Core.Bool.{Bool, true, false, cond}
 use mathlib.Core.List.{List, [], _∷_, _++_}
 use mathlib.Core.Logic.{_≢_}
-use Prim.Native.Nat.{ℕ, zero, suc, _+_, _*_, _%_, _<_}
+use Prim.Native.Nat.{ℕ, zero, suc, _+_, _*_, _%_, _^_, _<_}
 use native.Mathlib.Nat.{zero-mul}
 use native.Mathlib.Omega.{arith}
 use lib.Bits.{bitXor, xor-self, xor-zero-r}
-use lib.Dec.{eqb}
+use lib.Dec.{eqb, lit<}
 use lib.ListN.{length, take, drop, replicate, length-replicate}
 use borrow.Author.Tests.{eq-eqb, ne-eqb}
 use Rattle.xor.specs.Xors.{xors}
@@ -25,7 +25,7 @@ use Rattle.checksum.proofs.Figures.{blocks}
 use Rattle.checksum.proofs.Joined.{guard-checksum, none-waits}
 use Rattle.checksum.proofs.Noticed as words
 use Rattle.checksum.proofs.Weighed.{checksum-lt, never-zero}
-use Rattle.format.specs.Formats.{Format, guard, blank, spare, Combines, guardsOf}
+use Rattle.format.specs.Formats.{Format, guard, blank, spare, settled, Combines, guardsOf}
 use Rattle.format.specs.Packed.{packed, unpacked, packedAdvance, sum-small, packed-joined}
 use Rattle.format.specs.Methods.{t10, checksummed, formatOf}
 
@@ -39,6 +39,15 @@ pub of-other : (method : ℕ) → method ≢ 2 → formatOf method ≡ t10
 unfolding formatOf
 of-other method ne = ap (λ (b : Bool). cond b checksummed t10) (ne-eqb method 2 ne)
 
+-- method 2 alone carries
+pub carries-two : (method : ℕ) → eqb method 2 ≡ formatOf method .carries
+unfolding formatOf
+carries-two method = go (eqb method 2)
+  where
+    go : (b : Bool) → b ≡ cond b checksummed t10 .carries
+    go false = refl
+    go true = refl
+
 -- what holds of both formats holds of every method's
 pub of-both : (P : Format → Type 0) → P t10 → P checksummed → (method : ℕ) → P (formatOf method)
 unfolding formatOf
@@ -48,18 +57,38 @@ of-both P first second method = go (eqb method 2)
     go false = first
     go true = second
 
--- what is said of every method but 2
-abbrev pub unless : Bool → Type 0 → Type 0
-unless true X = Unit
-unless false X = X
-
-but-two : (P : Format → Type 0) → P t10 → (method : ℕ) → unless (eqb method 2) (P (formatOf method))
+-- what holds of the first holds of every method whose parity has the guard of its own data
+pub of-plain : (P : Format → Type 0) → P t10 → (method : ℕ) → formatOf method .carries ≡ false → P (formatOf method)
 unfolding formatOf
-but-two P one method = go (eqb method 2)
+of-plain P one method = go (eqb method 2)
   where
-    go : (b : Bool) → unless b (P (cond b checksummed t10))
-    go false = one
-    go true = tt
+    go : (b : Bool) → cond b checksummed t10 .carries ≡ false → P (cond b checksummed t10)
+    go false e = one
+    go true e = let o : _≡_ {A = ℕ} 0 1 = cc in absurd (omega arith)
+
+-- and what holds of the second, of every method whose parity carries
+pub of-carrying : (P : Format → Type 0) → P checksummed → (method : ℕ) → formatOf method .carries ≡ true → P (formatOf method)
+unfolding formatOf
+of-carrying P two method = go (eqb method 2)
+  where
+    go : (b : Bool) → cond b checksummed t10 .carries ≡ true → P (cond b checksummed t10)
+    go true e = two
+    go false e = let o : _≡_ {A = ℕ} 0 1 = cc in absurd (omega arith)
+
+-- ---- what both have alike: their lengths, and guards of two bytes
+
+pub same-data : (method other : ℕ) → formatOf method .dataLength ≡ formatOf other .dataLength
+same-data method other = long method ∙ sym (long other)
+  where
+    long : (m : ℕ) → formatOf m .dataLength ≡ 512
+    long = of-both (λ F. F .dataLength ≡ 512) refl refl
+
+pub two-bytes : (method : ℕ) → 256 ^ formatOf method .quarter ≡ 65536
+two-bytes = of-both (λ F. 256 ^ F .quarter ≡ 65536) refl refl
+
+-- a register starts with sixteen bits
+pub start-narrow : (method : ℕ) → formatOf method .start < 65536
+start-narrow = of-both (λ F. F .start < 65536) (lit< tt) (lit< tt)
 
 -- ---- method 1: its guard is the CRC
 
@@ -86,38 +115,24 @@ unfolding spare
 spare-t10 n = ap (λ (b : ℕ). b * (n % 2)) blank-t10 ∙ zero-mul (n % 2)
 
 -- a block of zeros has guard 0, so guards combine as they are
-pub blank-none : blank (formatOf 1) ≡ 0
-unfolding formatOf
-blank-none = blank-t10
-
-pub spare-none : (n : ℕ) → spare (formatOf 1) n ≡ 0
-unfolding formatOf
-spare-none n = spare-t10 n
+pub blank-none : (method : ℕ) → formatOf method .carries ≡ false → blank (formatOf method) ≡ 0
+blank-none = of-plain (λ F. blank F ≡ 0) blank-t10
 
 combines-t10 : Combines t10
 combines-t10 a b ha hb =
     guard-t10 (xors a b) ∙ guard-linear a b (ha ∙ sym hb)
     ∙ sym (ap₂ bitXor (ap₂ bitXor (guard-t10 a) (guard-t10 b)) blank-t10 ∙ xor-zero-r (bitXor (crcGuard a) (crcGuard b)))
 
--- of every method but 2: guards combine, up to that of a block of zeros
-pub combines : (method : ℕ) → unless (eqb method 2) (Combines (formatOf method))
-combines = but-two Combines combines-t10
+-- guards of data combine, up to that of a block of zeros
+pub combines : (method : ℕ) → formatOf method .carries ≡ false → Combines (formatOf method)
+combines = of-plain Combines combines-t10
 
--- of every method but 2: what lies within sixteen successive bits is noticed
+-- what lies within sixteen successive bits is noticed
 abbrev pub Notices : Format → Type 0
 Notices F = (a b : List ℕ) → Bytes a → Bytes b → length a ≡ length b → Within 16 (bitsOf a) (bitsOf b) → a ≢ b → guard F a ≢ guard F b
 
-pub notices : (method : ℕ) → unless (eqb method 2) (Notices (formatOf method))
-notices = but-two Notices (λ a b ha hb long near ne e. noticed a b ha hb long near ne (sym (guard-t10 a) ∙ e ∙ guard-t10 b))
-
--- a register has sixteen bits
-pub start-narrow : formatOf 1 .start < 65536
-unfolding formatOf
-start-narrow = t10 .start-small
-
-pub advance-narrow : (at r : ℕ) (bytes : List ℕ) → r < 65536 → formatOf 1 .advance at r bytes < 65536
-unfolding formatOf
-advance-narrow = t10 .advance-small
+pub notices : (method : ℕ) → formatOf method .carries ≡ false → Notices (formatOf method)
+notices = of-plain Notices (λ a b ha hb long near ne e. noticed a b ha hb long near ne (sym (guard-t10 a) ∙ e ∙ guard-t10 b))
 
 -- ---- method 2: its guard is the checksum
 
@@ -134,9 +149,9 @@ guards-checksummed zero stride bytes = refl
 guards-checksummed (suc n) stride bytes =
     ap₂ (λ (g : ℕ) (gs : List ℕ). g ∷ gs) (sym (guard-checksummed (take 512 bytes))) (guards-checksummed n stride (drop stride bytes))
 
-pub spare-checksummed : (n : ℕ) → spare checksummed n ≡ 65535 * (n % 2)
-unfolding spare
-spare-checksummed n = ap (λ (b : ℕ). b * (n % 2)) (guard-checksummed (replicate 512 0) ∙ blocks .0)
+pub blank-checksummed : blank (formatOf 2) ≡ 0xFFFF
+unfolding formatOf
+blank-checksummed = guard-checksummed (replicate 512 0) ∙ blocks .0
 
 pub checksum-guard : (bytes : List ℕ) → guard (formatOf 2) bytes ≡ checksum bytes
 unfolding formatOf
@@ -148,14 +163,26 @@ guard-some bytes = rw (checksum-guard bytes) (never-zero bytes)
 pub guard-narrow : (bytes : List ℕ) → guard (formatOf 2) bytes < 65536
 guard-narrow bytes = rw (checksum-guard bytes) (checksum-lt bytes)
 
-module _ (k : ℕ) (a b : List ℕ) (one : OneWord k a b) where
-  -- a change of one aligned word is noticed, unless it turns 0000h into FFFFh or back
-  pub notices-word : Bytes a → Bytes b → ¬ Turned (wordAt a k) (wordAt b k) → a ≢ b → guard (formatOf 2) a ≢ guard (formatOf 2) b
-  notices-word ha hb turned ne e = words.noticed k a b one ha hb turned ne (sym (checksum-guard a) ∙ e ∙ checksum-guard b)
+-- a change of one aligned word is noticed, unless it turns 0000h into FFFFh or back; and that is not
+abbrev pub NoticesWord : Format → Type 0
+NoticesWord F = (k : ℕ) (a b : List ℕ) → OneWord k a b → Bytes a → Bytes b → ¬ Turned (wordAt a k) (wordAt b k) → a ≢ b → guard F a ≢ guard F b
 
-  -- and that is not
-  pub turned-unnoticed : Turned (wordAt a k) (wordAt b k) → guard (formatOf 2) a ≡ guard (formatOf 2) b
-  turned-unnoticed turned = checksum-guard a ∙ words.unnoticed k a b one turned ∙ sym (checksum-guard b)
+pub notices-word : (method : ℕ) → formatOf method .carries ≡ true → NoticesWord (formatOf method)
+notices-word =
+    of-carrying NoticesWord
+    (λ k a b one ha hb turned ne e. words.noticed k a b one ha hb turned ne (sym (guard-checksummed a) ∙ e ∙ guard-checksummed b))
+
+abbrev pub MissesTurned : Format → Type 0
+MissesTurned F = (k : ℕ) (a b : List ℕ) → OneWord k a b → Turned (wordAt a k) (wordAt b k) → guard F a ≡ guard F b
+
+pub turned-unnoticed : (method : ℕ) → formatOf method .carries ≡ true → MissesTurned (formatOf method)
+turned-unnoticed =
+    of-carrying MissesTurned (λ k a b one turned. guard-checksummed a ∙ words.unnoticed k a b one turned ∙ sym (guard-checksummed b))
+
+-- what the guards in the tags of a right stripe combine to: zero, in both methods
+pub settled-none : (method members : ℕ) → settled (formatOf method) members ≡ 0
+unfolding settled
+settled-none method members = of-both (λ F. cond (F .carries) 0 (spare F members) ≡ 0) (spare-t10 members) refl method
 
 -- a byte waits only where the position is odd: at an even one the register has sixteen bits, if it had where the bytes begin at one
 pub none-waits-even : (at r : ℕ) (bytes : List ℕ) → (at % 2 ≡ 0 → r < 65536) → (at + length bytes) % 2 ≡ 0 → formatOf 2 .advance at r bytes < 65536

@@ -1,7 +1,8 @@
 -- What one kind of block is: its lengths, and its guard as a machine over bytes. Everything above speaks of any format. Assumes nothing.
 use mathlib.Core.Path.{_≡_}
+use mathlib.Core.Bool.{Bool, false, cond}
 use mathlib.Core.List.{List, [], _∷_, _++_}
-use Prim.Native.Nat.{ℕ, zero, suc, _+_, _*_, _%_, _^_, _≤_, _<_}
+use Prim.Native.Nat.{ℕ, zero, suc, _+_, _*_, _/_, _%_, _^_, _≤_, _<_}
 use lib.Bits.{bitXor}
 use lib.ListN.{length, take, drop, replicate}
 use Rattle.xor.specs.Xors.{xors}
@@ -28,10 +29,16 @@ pub record Format : Type 0 where
   pub start : ℕ
   pub advance : ℕ → ℕ → List ℕ → ℕ
   pub guardOf : ℕ → ℕ
+  -- whether the parity's tag holds what the data members' guards combine to; else it holds the guard of its own data
+  pub carries : Bool
+  -- whether a byte may wait for its pair where so many bytes of a block were taken
+  pub waits : ℕ → Bool
   pub advance-nil : (at r : ℕ) → advance at r [] ≡ r
   pub advance-joined : (at r : ℕ) (a b : List ℕ) → advance at r (a ++ b) ≡ advance (at + length a) (advance at r a) b
   pub start-small : start < limit
   pub advance-small : (at r : ℕ) (bytes : List ℕ) → r < limit → advance at r bytes < limit
+  pub limit-most : limit ≤ 256 * 256 ^ quarter
+  pub none-waits : (bytes : List ℕ) → waits (length bytes) ≡ false → advance 0 start (take dataLength bytes) < 256 ^ quarter
   pub guard-small : (bytes : List ℕ) → guardOf (advance 0 start bytes) < 256 ^ quarter
   pub block-parts : blockLength ≡ dataLength + tagLength
   pub tag-quarters : tagLength ≡ 4 * quarter
@@ -53,6 +60,21 @@ module _ (F : Format) where
   -- that for an odd count, and nothing for an even one
   unfoldable pub spare : ℕ → ℕ
   spare count = blank * (count % 2)
+
+  -- what the guards in the tags of so many members combine to where their data combine to zero: nothing, or, of an odd number of guards of
+  -- data, that of a block of zeros
+  unfoldable pub settled : ℕ → ℕ
+  settled members = cond (F .carries) 0 (spare members)
+
+  -- a register as a state keeps it: as many bits as a guard has, and the byte that waits above them
+  abbrev pub valueIn : ℕ → ℕ
+  valueIn r = r % 256 ^ F .quarter
+
+  abbrev pub waitingIn : ℕ → ℕ
+  waitingIn r = r / 256 ^ F .quarter % 256
+
+  abbrev pub registerFrom : ℕ → ℕ → ℕ
+  registerFrom value waiting = value + 256 ^ F .quarter * waiting
 
   -- guards combine, up to that of a block of zeros
   abbrev pub Combines : Type 0

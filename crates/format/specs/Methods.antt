@@ -1,7 +1,8 @@
 -- The formats by their method numbers. Assumes nothing.
 use mathlib.Core.Path.{refl}
-use mathlib.Core.Bool.{cond}
+use mathlib.Core.Bool.{true, false, cond}
 use Prim.Native.Nat.{ℕ, _%_, _^_}
+use lib.ListN.{take}
 use native.Mathlib.Omega.{arith}
 use lib.Dec.{eqb, lit<}
 use Rattle.crc.specs.Guard.{run}
@@ -9,7 +10,7 @@ use Rattle.crc.proofs.Joined.{run-nil, run-joined}
 use Rattle.crc.proofs.Noticed.{run-lt}
 use Rattle.checksum.specs.Checksum.{first}
 use Rattle.format.specs.Formats.{Format}
-use Rattle.format.specs.Packed.{packedAdvance, packed-nil, packed-joined, packed-small}
+use Rattle.format.specs.Packed.{packedAdvance, mayWait, packed-nil, packed-joined, packed-small, packed-alone}
 
 -- method 1: 512 bytes of data, 8 of tag, CRC-16/T10-DIF
 abbrev pub t10 : Format
@@ -24,10 +25,14 @@ t10 =
       start = 0;
       advance = λ at. run;
       guardOf = λ r. r;
+      carries = false;
+      waits = λ at. false;
       advance-nil = λ at. run-nil;
       advance-joined = λ at. run-joined;
       start-small = lit< tt;
       advance-small = λ at r bytes h. run-lt r bytes h;
+      limit-most = omega arith;
+      none-waits = λ bytes h. run-lt 0 (take 512 bytes) (lit< tt);
       guard-small = λ bytes. run-lt 0 bytes (lit< tt);
       block-parts = refl;
       tag-quarters = refl;
@@ -51,10 +56,14 @@ checksummed =
       start = first;
       advance = packedAdvance;
       guardOf = λ r. r % 65536;
+      carries = true;
+      waits = mayWait 512;
       advance-nil = packed-nil;
       advance-joined = packed-joined;
       start-small = lit< tt;
       advance-small = packed-small;
+      limit-most = omega arith;
+      none-waits = packed-alone 256;
       guard-small = λ bytes. omega arith;
       block-parts = refl;
       tag-quarters = refl;

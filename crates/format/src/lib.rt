@@ -3,18 +3,18 @@
 mod packing;
 mod positions;
 
+pub use packing::register_of;
+pub use packing::value_in;
+pub use packing::waiting_in;
 pub use positions::data_room;
 pub use positions::part_at;
 pub use positions::tag_place;
 ghost use mathlib.Core.Path.{_≡_};
 ghost use Prim.Native.Nat.{_*_, _/_};
-ghost use Rattle.format.specs.Formats.{guard, spare, guardsOf};
+ghost use Rattle.format.specs.Formats.{guard, settled, guardsOf};
 ghost use Rattle.format.specs.Methods.{formatOf};
 use packing::packed;
 use packing::unpacked;
-
-// The method of every array, as long as its numbers name none.
-pub const METHOD: u8 = 1;
 
 // The method whose guard is the checksum.
 const CHECKSUM: u8 = 2;
@@ -72,14 +72,28 @@ pub fn unscaled(method: u8, application: u64) -> u64
     application
 }
 
-// The guard of a block of zeros for an odd count, 0 for an even one.
-pub fn blank_if_odd(method: u8, count: usize) -> u32
-    ensures { λ r. ⌜ r ≡ spare (formatOf method) count ⌝ }
+// Whether the parity's tag holds what the data members' guards combine to; else it holds the guard of its own data.
+pub fn carries(method: u8) -> bool
+    ensures { λ r. ⌜ r ≡ formatOf method .carries ⌝ }
+{
+    method == CHECKSUM
+}
+
+// What the guards in the tags of so many members combine to where their data combine to zero.
+pub fn settled(method: u8, members: usize) -> u32
+    ensures { λ r. ⌜ r ≡ settled (formatOf method) members ⌝ }
+{
+    0
+}
+
+// Whether a byte may wait for its pair at a position of a block.
+pub fn waits(method: u8, position: usize) -> bool
+    ensures { λ r. ⌜ r ≡ formatOf method .waits position ⌝ }
 {
     if method == CHECKSUM {
-        return 0xFFFF * (count % 2) as u32;
+        return position % 2 == 1 && position < 512;
     }
-    0
+    false
 }
 
 // The guard of some data.

@@ -1,7 +1,9 @@
-// The register of method 2 as one number, and back.
+// A register as one number, and the two that a state keeps of it: the sum, and the byte that waits.
 ghost use mathlib.Core.Path.{_≡_};
 ghost use Prim.Native.Nat.{_/_, _%_};
 ghost use Rattle.checksum.specs.Machine.{registerOf};
+ghost use Rattle.format.specs.Formats.{valueIn, waitingIn, registerFrom};
+ghost use Rattle.format.specs.Methods.{formatOf};
 ghost use Rattle.format.specs.Packed.{packed};
 use checksum::Register;
 
@@ -20,4 +22,24 @@ pub fn unpacked(register: u32) -> Register
         value: (register % 65536) as u16,
         waiting: (register / 65536 % 256) as u8,
     }
+}
+
+// A register from what a state keeps of it: as many bits as a guard has, and above them the byte that waits.
+pub fn register_of(method: u8, value: u16, waiting: u8) -> u32
+    ensures { λ r. ⌜ r ≡ registerFrom (formatOf method) value waiting ⌝ }
+{
+    value as u32 + 65536 * waiting as u32
+}
+
+// And what it keeps of a register.
+pub fn value_in(method: u8, register: u32) -> u16
+    ensures { λ r. ⌜ r ≡ valueIn (formatOf method) register ⌝ }
+{
+    (register % 65536) as u16
+}
+
+pub fn waiting_in(method: u8, register: u32) -> u8
+    ensures { λ r. ⌜ r ≡ waitingIn (formatOf method) register ⌝ }
+{
+    (register / 65536 % 256) as u8
 }

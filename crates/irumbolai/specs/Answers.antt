@@ -8,6 +8,7 @@ use Rattle.layout.specs.Arrays.{arrayOf}
 use Rattle.layout.specs.declared.Placed.{Placed}
 use Rattle.layout.specs.declared.Placed.the-variants.{Refused, At}
 use Rattle.scan.specs.declared.Scan.{Scan}
+use Rattle.irumbolai.specs.declared.SumAnswer.{SumAnswer}
 use Rattle.irumbolai.specs.declared.PlaceAnswer.{PlaceAnswer}
 use Rattle.irumbolai.specs.declared.OwnerAnswer.{OwnerAnswer}
 use Rattle.irumbolai.specs.declared.FieldAnswer.{FieldAnswer}
@@ -21,10 +22,11 @@ use Rattle.irumbolai.specs.declared.ScanState.{ScanState}
 abbrev pub scanOf : ScanState → Scan
 scanOf s =
     record {
-      array = arrayOf (s .members) (s .stripes) (s .volume);
+      array = arrayOf (s .members) (s .stripes) (s .volume) (s .method);
       stripe = s .stripe;
       at = s .at;
       register = s .register;
+      waiting = s .waiting;
       tag = s .tag;
     }
 
@@ -48,6 +50,9 @@ memberAnswered (Refused number) = 0
 memberAnswered (At stripe member) = member
 
 -- the fields of each struct, in the order of the numbers
+abbrev pub sumFields : SumAnswer → List ℕ
+sumFields r = r .refusal ∷ r .guard ∷ []
+
 abbrev pub placeFields : PlaceAnswer → List ℕ
 placeFields r = r .refusal ∷ r .stripe ∷ r .member ∷ []
 

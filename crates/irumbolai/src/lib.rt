@@ -4,6 +4,7 @@ mod places;
 mod scans;
 mod scrubs;
 mod stripes;
+mod sums;
 
 ghost use mathlib.Core.Path.{_≡_};
 ghost use mathlib.Core.List.{[], _∷_};
@@ -21,6 +22,13 @@ use verdict::Verdict;
 #[repr(C)]
 pub struct GuardsAnswer {
     pub guard: [u16; 16],
+}
+
+// What the checksum of a run is.
+#[repr(C)]
+pub struct SumAnswer {
+    pub refusal: u32,
+    pub guard: u32,
 }
 
 // Where a block lies.
@@ -91,9 +99,11 @@ pub struct ScanState {
     pub members: usize,
     pub stripes: u64,
     pub volume: u8,
+    pub method: u8,
     pub stripe: u64,
     pub at: [u16; 16],
     pub register: [u16; 16],
+    pub waiting: [u8; 16],
     pub tag: [u8; MOST_TAGS],
 }
 

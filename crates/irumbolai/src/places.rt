@@ -40,11 +40,12 @@ pub extern "C" fn irumbolai_place(
     members: usize,
     stripes: u64,
     volume: u8,
+    method: u8,
     block: u64,
 ) -> PlaceAnswer
-    ensures { λ r. ⌜ placeFields r ≡ unflagged (placeNumbers (arrayOf members stripes volume) block) ⌝ }
+    ensures { λ r. ⌜ placeFields r ≡ unflagged (placeNumbers (arrayOf members stripes volume method) block) ⌝ }
 {
-    let array = layout::array_of(members, stripes, volume);
+    let array = layout::array_of(members, stripes, volume, method);
     place_answer(layout::place(array, block))
 }
 
@@ -80,11 +81,12 @@ pub extern "C" fn irumbolai_owner(
     members: usize,
     stripes: u64,
     volume: u8,
+    method: u8,
     stripe: u64,
     member: usize,
 ) -> OwnerAnswer
-    ensures { λ r. ⌜ ownerFields r ≡ unflagged (ownerNumbers (arrayOf members stripes volume) stripe member) ⌝ }
+    ensures { λ r. ⌜ ownerFields r ≡ unflagged (ownerNumbers (arrayOf members stripes volume method) stripe member) ⌝ }
 {
-    let array = layout::array_of(members, stripes, volume);
+    let array = layout::array_of(members, stripes, volume, method);
     owner_answer(layout::owner(array, stripe, member))
 }

@@ -22,15 +22,17 @@ ghost use Rattle.irumbolai.specs.Answers.{scanOf, unflagged, verdictFiel
 fn scan_of(state: ScanState) -> Scan
     ensures { λ r. ⌜ r ≡ scanOf state ⌝ }
 {
-    let array = layout::array_of(state.members, state.stripes, state.volume);
+    let array = layout::array_of(state.members, state.stripes, state.volume, state.method);
     let at = state.at;
     let register = state.register;
+    let waiting = state.waiting;
     let tag = state.tag;
     Scan {
         array,
         stripe: state.stripe,
         at,
         register,
+        waiting,
         tag,
     }
 }
@@ -42,14 +44,17 @@ fn state_of(scan: Scan) -> ScanState
     let array = scan.array;
     let at = scan.at;
     let register = scan.register;
+    let waiting = scan.waiting;
     let tag = scan.tag;
     ScanState {
         members: array.members,
         stripes: array.stripes,
         volume: array.volume,
+        method: array.method,
         stripe: scan.stripe,
         at,
         register,
+        waiting,
         tag,
     }
 }
@@ -60,14 +65,15 @@ pub extern "C" fn irumbolai_start(
     members: usize,
     stripes: u64,
     volume: u8,
+    method: u8,
     stripe: u64,
     work: &mut [u8],
 ) -> TakenAnswer
-    ensures { λ r. ⌜ r .refusal ≡ startRefusal (arrayOf members stripes volume) stripe (length (now (work .entry))) ⌝ }
-    ensures { λ r. ⌜ scanOf (r .state) ≡ startState (arrayOf members stripes volume) stripe (length (now (work .entry))) ⌝ }
-    ensures { λ _. ⌜ now (work .exit) ≡ startWork (arrayOf members stripes volume) stripe (now (work .entry)) ⌝ }
+    ensures { λ r. ⌜ r .refusal ≡ startRefusal (arrayOf members stripes volume method) stripe (length (now (work .entry))) ⌝ }
+    ensures { λ r. ⌜ scanOf (r .state) ≡ startState (arrayOf members stripes volume method) stripe (length (now (work .entry))) ⌝ }
+    ensures { λ _. ⌜ now (work .exit) ≡ startWork (arrayOf members stripes volume method) stripe (now (work .entry)) ⌝ }
 {
-    let array = layout::array_of(members, stripes, volume);
+    let array = layout::array_of(members, stripes, volume, method);
     let taken = scan::start(array, stripe, work);
     let refusal = taken.refusal as u32;
     let next = taken.state;

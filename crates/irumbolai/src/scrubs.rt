@@ -15,12 +15,13 @@ pub extern "C" fn irumbolai_scrub(
     members: usize,
     stripes: u64,
     volume: u8,
+    method: u8,
     stripe: u64,
     bytes: &[u8],
 ) -> VerdictAnswer
-    ensures { λ r. ⌜ verdictFields r ≡ spread (unflagged (scrubNumbers (arrayOf members stripes volume) stripe (now (bytes .entry)))) ⌝ }
+    ensures { λ r. ⌜ verdictFields r ≡ spread (unflagged (scrubNumbers (arrayOf members stripes volume method) stripe (now (bytes .entry)))) ⌝ }
 {
-    let array = layout::array_of(members, stripes, volume);
+    let array = layout::array_of(members, stripes, volume, method);
     verdict_answer(stripe::scrub(array, stripe, bytes))
 }
 

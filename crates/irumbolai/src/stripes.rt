@@ -96,13 +96,14 @@ pub extern "C" fn irumbolai_check(
     members: usize,
     stripes: u64,
     volume: u8,
+    method: u8,
     stripe: u64,
     member: usize,
     block: &[u8],
 ) -> CheckAnswer
-    ensures { λ r. ⌜ checkFields r ≡ unflagged (checkNumbers (arrayOf members stripes volume) stripe member (now (block .entry))) ⌝ }
+    ensures { λ r. ⌜ checkFields r ≡ unflagged (checkNumbers (arrayOf members stripes volume method) stripe member (now (block .entry))) ⌝ }
 {
-    let array = layout::array_of(members, stripes, volume);
+    let array = layout::array_of(members, stripes, volume, method);
     check_answer(tag::check(array, stripe, member, block))
 }
 
@@ -112,14 +113,15 @@ pub extern "C" fn irumbolai_seal(
     members: usize,
     stripes: u64,
     volume: u8,
+    method: u8,
     stripe: u64,
     content: &[u8],
     bytes: &mut [u8],
 ) -> u32
-    ensures { λ r. ⌜ r ≡ sealRefusal (arrayOf members stripes volume) stripe (length (now (content .entry))) (length (now (bytes .entry))) ⌝ }
-    ensures { λ _. ⌜ now (bytes .exit) ≡ sealBytes (arrayOf members stripes volume) stripe (now (content .entry)) (now (bytes .entry)) ⌝ }
+    ensures { λ r. ⌜ r ≡ sealRefusal (arrayOf members stripes volume method) stripe (length (now (content .entry))) (length (now (bytes .entry))) ⌝ }
+    ensures { λ _. ⌜ now (bytes .exit) ≡ sealBytes (arrayOf members stripes volume method) stripe (now (content .entry)) (now (bytes .entry)) ⌝ }
 {
-    let array = layout::array_of(members, stripes, volume);
+    let array = layout::array_of(members, stripes, volume, method);
     stripe::seal(array, stripe, content, bytes) as u32
 }
 
@@ -153,14 +155,15 @@ pub extern "C" fn irumbolai_read(
     members: usize,
     stripes: u64,
     volume: u8,
+    method: u8,
     block: u64,
     bytes: &[u8],
     out: &mut [u8],
 ) -> ReadAnswer
-    ensures { λ r. ⌜ readFields r ≡ unflagged (readNumbers (arrayOf members stripes volume) block (now (bytes .entry)) (length (now (out .entry)))) ⌝ }
-    ensures { λ _. ⌜ now (out .exit) ≡ readOut (arrayOf members stripes volume) block (now (bytes .entry)) (now (out .entry)) ⌝ }
+    ensures { λ r. ⌜ readFields r ≡ unflagged (readNumbers (arrayOf members stripes volume method) block (now (bytes .entry)) (length (now (out .entry)))) ⌝ }
+    ensures { λ _. ⌜ now (out .exit) ≡ readOut (arrayOf members stripes volume method) block (now (bytes .entry)) (now (out .entry)) ⌝ }
 {
-    let array = layout::array_of(members, stripes, volume);
+    let array = layout::array_of(members, stripes, volume, method);
     read_answer(stripe::read(array, block, bytes, out))
 }
 
@@ -170,14 +173,15 @@ pub extern "C" fn irumbolai_rebuild(
     members: usize,
     stripes: u64,
     volume: u8,
+    method: u8,
     stripe: u64,
     member: usize,
     bytes: &mut [u8],
 ) -> u32
-    ensures { λ r. ⌜ r ≡ rebuildRefusal (arrayOf members stripes volume) stripe member (now (bytes .entry)) ⌝ }
-    ensures { λ _. ⌜ now (bytes .exit) ≡ rebuildBytes (arrayOf members stripes volume) stripe member (now (bytes .entry)) ⌝ }
+    ensures { λ r. ⌜ r ≡ rebuildRefusal (arrayOf members stripes volume method) stripe member (now (bytes .entry)) ⌝ }
+    ensures { λ _. ⌜ now (bytes .exit) ≡ rebuildBytes (arrayOf members stripes volume method) stripe member (now (bytes .entry)) ⌝ }
 {
-    let array = layout::array_of(members, stripes, volume);
+    let array = layout::array_of(members, stripes, volume, method);
     stripe::rebuild(array, stripe, member, bytes) as u32
 }
 
@@ -187,13 +191,14 @@ pub extern "C" fn irumbolai_update(
     members: usize,
     stripes: u64,
     volume: u8,
+    method: u8,
     block: u64,
     content: &[u8],
     bytes: &mut [u8],
 ) -> u32
-    ensures { λ r. ⌜ r ≡ updateRefusal (arrayOf members stripes volume) block (length (now (content .entry))) (now (bytes .entry)) ⌝ }
-    ensures { λ _. ⌜ now (bytes .exit) ≡ updateBytes (arrayOf members stripes volume) block (now (content .entry)) (now (bytes .entry)) ⌝ }
+    ensures { λ r. ⌜ r ≡ updateRefusal (arrayOf members stripes volume method) block (length (now (content .entry))) (now (bytes .entry)) ⌝ }
+    ensures { λ _. ⌜ now (bytes .exit) ≡ updateBytes (arrayOf members stripes volume method) block (now (content .entry)) (now (bytes .entry)) ⌝ }
 {
-    let array = layout::array_of(members, stripes, volume);
+    let array = layout::array_of(members, stripes, volume, method);
     stripe::update(array, block, content, bytes) as u32
 }

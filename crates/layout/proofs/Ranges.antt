@@ -8,7 +8,7 @@ use native.Mathlib.Omega.{arith}
 use borrow.Author.Tests.{leb-true, le-leb}
 use lib.Dec.{leb}
 use Rattle.layout.specs.Answers.{refuse, orPast}
-use Rattle.layout.specs.Arrays.{within, membersFit, stripesFit, arrayRefusal, blockCount, stripeRefusal, blockRefusal}
+use Rattle.layout.specs.Arrays.{within, membersFit, stripesFit, methodFit, arrayRefusal, blockCount, stripeRefusal, blockRefusal}
 use Rattle.layout.specs.Places.{ownerRefusal}
 use Rattle.layout.specs.Ranges.{Sound, SoundStripe, SoundBlock, SoundPlace}
 use Rattle.layout.specs.declared.Array.{Array}
@@ -31,15 +31,21 @@ range-within low high x l h = rw (le-leb low x l, le-leb x high h)
 pub array-sound : (a : Array) → arrayRefusal a ≡ 0 → Sound a
 unfolding arrayRefusal
 array-sound a e =
-    let h = refuse-none (membersFit a) 0 (refuse (not (stripesFit a)) 2 0) e in
+    let h = refuse-none (membersFit a) 0 (refuse (not (stripesFit a)) 2 (refuse (not (methodFit a)) 12 0)) e in
+    let i = refuse-none (stripesFit a) 1 (refuse (not (methodFit a)) 12 0) (h .1) in
     let m = within-range 3 16 (a .members) (h .0) in
-    let s = within-range 1 268435456 (a .stripes) (refuse-none (stripesFit a) 1 0 (h .1) .0) in
-    record { few = m .0; many = m .1; some = s .0; most = s .1 }
+    let s = within-range 1 268435456 (a .stripes) (i .0) in
+    let k = within-range 1 2 (a .method) (refuse-none (methodFit a) 11 0 (i .1) .0) in
+    record { few = m .0; many = m .1; some = s .0; most = s .1; method-least = k .0; method-most = k .1 }
 
 pub sound-array : (a : Array) → Sound a → arrayRefusal a ≡ 0
 unfolding arrayRefusal
 sound-array a h =
-    rw (range-within 3 16 (a .members) (h .few) (h .many), range-within 1 268435456 (a .stripes) (h .some) (h .most))
+    rw (
+      range-within 3 16 (a .members) (h .few) (h .many),
+      range-within 1 268435456 (a .stripes) (h .some) (h .most),
+      range-within 1 2 (a .method) (h .method-least) (h .method-most),
+    )
 
 pub stripe-sound : (a : Array) (stripe : ℕ) → stripeRefusal a stripe ≡ 0 → SoundStripe a stripe
 unfolding stripeRefusal
@@ -73,33 +79,50 @@ sound-place a stripe member h = none-or-past (stripeRefusal a stripe) member (a 
 
 -- ---- something is: each number exactly where its test fails and no earlier one does
 
+-- the three tests in their order
+abbrev inOrder : Bool → Bool → Bool → ℕ
+inOrder m s k = refuse (not m) 1 (refuse (not s) 2 (refuse (not k) 12 0))
+
 pub members-refused : (a : Array) → (arrayRefusal a ≡ 1) ↔ (membersFit a ≡ false)
 unfolding arrayRefusal
-members-refused a = by-tests (membersFit a) (stripesFit a)
+members-refused a = by-tests (membersFit a) (stripesFit a) (methodFit a)
   where
-    by-tests : (m s : Bool) → (refuse (not m) 1 (refuse (not s) 2 0) ≡ 1) ↔ (m ≡ false)
-    by-tests true true = (λ e. absurd (omega arith), λ e. (cc))
-    by-tests true false = (λ e. absurd (omega arith), λ e. (cc))
-    by-tests false s = (λ e. refl, λ e. refl)
+    by-tests : (m s k : Bool) → (inOrder m s k ≡ 1) ↔ (m ≡ false)
+    by-tests false s k = (λ e. refl, λ e. refl)
+    by-tests true false k = (λ e. absurd (omega arith), λ e. (cc))
+    by-tests true true false = (λ e. absurd (omega arith), λ e. (cc))
+    by-tests true true true = (λ e. absurd (omega arith), λ e. (cc))
 
 pub stripes-refused : (a : Array) → (arrayRefusal a ≡ 2) ↔ ((membersFit a ≡ true) × (stripesFit a ≡ false))
 unfolding arrayRefusal
-stripes-refused a = by-tests (membersFit a) (stripesFit a)
+stripes-refused a = by-tests (membersFit a) (stripesFit a) (methodFit a)
   where
-    by-tests : (m s : Bool) → (refuse (not m) 1 (refuse (not s) 2 0) ≡ 2) ↔ ((m ≡ true) × (s ≡ false))
-    by-tests true true = (λ e. absurd (omega arith), λ e. (cc))
-    by-tests true false = (λ e. (refl, refl), λ e. refl)
-    by-tests false s = (λ e. absurd (omega arith), λ e. (cc))
+    by-tests : (m s k : Bool) → (inOrder m s k ≡ 2) ↔ ((m ≡ true) × (s ≡ false))
+    by-tests false s k = (λ e. absurd (omega arith), λ e. (cc))
+    by-tests true false k = (λ e. (refl, refl), λ e. refl)
+    by-tests true true false = (λ e. absurd (omega arith), λ e. (cc))
+    by-tests true true true = (λ e. absurd (omega arith), λ e. (cc))
+
+pub method-refused : (a : Array) → (arrayRefusal a ≡ 12) ↔ ((membersFit a ≡ true) × (stripesFit a ≡ true) × (methodFit a ≡ false))
+unfolding arrayRefusal
+method-refused a = by-tests (membersFit a) (stripesFit a) (methodFit a)
+  where
+    by-tests : (m s k : Bool) → (inOrder m s k ≡ 12) ↔ ((m ≡ true) × (s ≡ true) × (k ≡ false))
+    by-tests false s k = (λ e. absurd (omega arith), λ e. (cc))
+    by-tests true false k = (λ e. absurd (omega arith), λ e. (cc))
+    by-tests true true false = (λ e. (refl, refl, refl), λ e. refl)
+    by-tests true true true = (λ e. absurd (omega arith), λ e. (cc))
 
 -- no other number is the array's own: later requests add numbers past 11
 pub array-else : (a : Array) (n : ℕ) → 3 ≤ n → n ≤ 11 → arrayRefusal a ≢ n
 unfolding arrayRefusal
-array-else a n low high = by-tests (membersFit a) (stripesFit a)
+array-else a n low high = by-tests (membersFit a) (stripesFit a) (methodFit a)
   where
-    by-tests : (m s : Bool) → refuse (not m) 1 (refuse (not s) 2 0) ≢ n
-    by-tests false s = omega arith
-    by-tests true false = omega arith
-    by-tests true true = omega arith
+    by-tests : (m s k : Bool) → inOrder m s k ≢ n
+    by-tests false s k = omega arith
+    by-tests true false k = omega arith
+    by-tests true true false = omega arith
+    by-tests true true true = omega arith
 
 past-refused : (a : Array) (x end : ℕ) → (orPast (arrayRefusal a) x end 3 ≡ 3) ↔ (Sound a × (end ≤ x))
 past-refused a x end = (

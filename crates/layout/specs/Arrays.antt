@@ -1,4 +1,4 @@
--- The numbers of an array: its members n, its stripes S, its volume; and which of them are refused.
+-- The numbers of an array: its members n, its stripes S, its volume, its guard method; and which of them are refused.
 -- Assumes nothing.
 use Prim.Native.Nat.{ℕ, _-_, _*_}
 use mathlib.Core.Bool.{Bool, not, _&&_}
@@ -7,12 +7,12 @@ use Rattle.layout.specs.Answers.{refuse, orPast}
 use Rattle.layout.specs.declared.Array.{Array}
 
 -- the array with these numbers
-abbrev pub arrayOf : ℕ → ℕ → ℕ → Array
-arrayOf members stripes volume = record { members = members; stripes = stripes; volume = volume }
+abbrev pub arrayOf : ℕ → ℕ → ℕ → ℕ → Array
+arrayOf members stripes volume method = record { members = members; stripes = stripes; volume = volume; method = method }
 
 -- no array: zeros throughout
 abbrev pub noArray : Array
-noArray = arrayOf 0 0 0
+noArray = arrayOf 0 0 0 0
 
 -- x lies between low and high, both included
 abbrev pub within : ℕ → ℕ → ℕ → Bool
@@ -24,9 +24,13 @@ membersFit a = within 3 16 (a .members)
 abbrev pub stripesFit : Array → Bool
 stripesFit a = within 1 268435456 (a .stripes)
 
+-- the guard method: 1 the CRC, 2 the checksum
+abbrev pub methodFit : Array → Bool
+methodFit a = within 1 2 (a .method)
+
 -- the refusal number of the array's own numbers
 unfoldable pub arrayRefusal : Array → ℕ
-arrayRefusal a = refuse (not (membersFit a)) 1 (refuse (not (stripesFit a)) 2 0)
+arrayRefusal a = refuse (not (membersFit a)) 1 (refuse (not (stripesFit a)) 2 (refuse (not (methodFit a)) 12 0))
 
 -- how many members of a stripe hold data: d
 abbrev pub dataMembers : Array → ℕ
@@ -36,7 +40,7 @@ dataMembers a = a .members - 1
 abbrev pub blockCount : Array → ℕ
 blockCount a = a .stripes * dataMembers a
 
--- refusals 1, 2 and 3 where a stripe is handed in, and where a block number is
+-- the array's own refusals and then 3, where a stripe is handed in, and where a block number is
 unfoldable pub stripeRefusal : Array → ℕ → ℕ
 stripeRefusal a stripe = orPast (arrayRefusal a) stripe (a .stripes) 3
 

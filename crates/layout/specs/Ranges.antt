@@ -9,6 +9,8 @@ pub record Sound (a : Array) : Type 0 where
   pub many : a .members ≤ 16
   pub some : 1 ≤ a .stripes
   pub most : a .stripes ≤ 268435456
+  pub method-least : 1 ≤ a .method
+  pub method-most : a .method ≤ 2
 
 -- and a stripe, a block, a place of it are
 pub record SoundStripe (a : Array) (stripe : ℕ) : Type 0 where

@@ -1,26 +1,29 @@
 // Where the blocks of an array lie: from a block number to its stripe and member, and back.
 // A call decides first: its refusal number, 0 where nothing is refused; only then does it compute.
 ghost use mathlib.Core.Path.{_≡_};
+ghost use mathlib.Core.Bool.{not};
 ghost use Prim.Native.Nat.{_-_, _<_, _≤_};
-ghost use Rattle.layout.specs.Answers.{orPast};
+ghost use Rattle.layout.specs.Answers.{refuse, orPast};
 ghost use Rattle.layout.specs.Arrays.{arrayOf, noArray, within, arrayRefusal, dataMembers, stripeRefusal, blockRefusal};
 ghost use Rattle.layout.specs.Places.{parityMember, memberAt, indexAt, referenceOf, placedNumbers, placeNumbers, ownedNumbers, ownerNumbers, ownerRefusal};
 
-// The array's numbers: members n, stripes S, and the volume that stands in every application tag.
+// The array's numbers: members n, stripes S, the volume that stands in every application tag, and the guard method.
 pub struct Array {
     pub members: usize,
     pub stripes: u64,
     pub volume: u8,
+    pub method: u8,
 }
 
 // The array with these numbers.
-pub fn array_of(members: usize, stripes: u64, volume: u8) -> Array
-    ensures { λ r. ⌜ r ≡ arrayOf members stripes volume ⌝ }
+pub fn array_of(members: usize, stripes: u64, volume: u8, method: u8) -> Array
+    ensures { λ r. ⌜ r ≡ arrayOf members stripes volume method ⌝ }
 {
     Array {
         members,
         stripes,
         volume,
+        method,
     }
 }
 
@@ -28,7 +31,7 @@ pub fn array_of(members: usize, stripes: u64, volume: u8) -> Array
 pub fn no_array() -> Array
     ensures { λ r. ⌜ r ≡ noArray ⌝ }
 {
-    array_of(0, 0, 0)
+    array_of(0, 0, 0, 0)
 }
 
 // Where a block lies.
@@ -50,6 +53,8 @@ const MOST_MEMBERS: u64 = 16;
 
 const MOST_STRIPES: u64 = 268435456;
 
+const MOST_METHODS: u64 = 2;
+
 // x lies between low and high, both included.
 fn is_within(low: u64, high: u64, x: u64) -> bool
     ensures { λ r. ⌜ r ≡ within low high x ⌝ }
@@ -57,17 +62,21 @@ fn is_within(low: u64, high: u64, x: u64) -> bool
     low <= x && x <= high
 }
 
-// The refusal number of the array's own numbers: 1, 2, or 0.
+// A test's number where it fails, else what the later tests give.
+fn unless(fits: bool, number: u8, later: u8) -> u8
+    ensures { λ r. ⌜ r ≡ refuse (not fits) number later ⌝ }
+{
+    if fits { later } else { number }
+}
+
+// The refusal number of the array's own numbers: 1, 2, 12, or 0.
 pub fn array_refusal(array: Array) -> u8
     ensures { λ r. ⌜ r ≡ arrayRefusal array ⌝ }
 {
-    if !is_within(FEWEST_MEMBERS, MOST_MEMBERS, array.members as u64) {
-        return 1;
-    }
-    if !is_within(1, MOST_STRIPES, array.stripes) {
-        return 2;
-    }
-    0
+    let members = is_within(FEWEST_MEMBERS, MOST_MEMBERS, array.members as u64);
+    let stripes = is_within(1, MOST_STRIPES, array.stripes);
+    let method = is_within(1, MOST_METHODS, array.method as u64);
+    unless(members, 1, unless(stripes, 2, unless(method, 12, 0)))
 }
 
 // The number of an earlier refusal where there is one, else `number` where x is at or past the end.

@@ -8,12 +8,12 @@ use Rattle.layout.specs.declared.Array.{Array}
 use Rattle.tag.specs.Numbers.{numberOf}
 use Rattle.lines.specs.Text.{decimal, scrubWord, membersWord, stripesWord, cleanWord, badWord, letters, uncheckedWord, tornWord, totalWord, cleanCount, badCount, uncheckedCount, tornCount, refusedWord}
 use Rattle.lines.specs.Lines.{firstLine, stripeLine, totalLine, refusedLine}
-use Rattle.lines.specs.Headers.{formOf, formSize, arrayIn, headerRefusal}
+use Rattle.lines.specs.Headers.{formOf, formSize, later, arrayIn, headerRefusal}
 
 -- ---- lines
 
 abbrev fiveByThousand : Array
-fiveByThousand = arrayOf 5 1000 9
+fiveByThousand = arrayOf 5 1000 9 1
 
 -- "SCRUB v1 members 5 stripes 1000"
 pub first-line-reads : firstLine fiveByThousand ≡ 0x53 ∷ 0x43 ∷ 0x52 ∷ 0x55 ∷ 0x42 ∷ 0x20 ∷ 0x76 ∷ 0x31 ∷ 0x20 ∷ 0x6D ∷ 0x65 ∷ 0x6D ∷ 0x62 ∷ 0x65
@@ -37,10 +37,11 @@ pub unchecked-line-reads : stripeLine 12 (3 ∷ 3 ∷ 1 ∷ 0 ∷ []) ≡ 0x31 �
 unfolding stripeLine uncheckedWord decimal
 unchecked-line-reads = refl
 
--- "12 TORN 509"
-pub torn-line-reads : stripeLine 12 (2 ∷ 509 ∷ 0 ∷ 0 ∷ []) ≡ 0x31 ∷ 0x32 ∷ 0x20 ∷ 0x54 ∷ 0x4F ∷ 0x52 ∷ 0x4E ∷ 0x20 ∷ 0x35 ∷ 0x30 ∷ 0x39 ∷ 0x0A ∷ []
+-- "12 TORN 509", and "12 TORN 512", a place behind the data
+pub torn-line-reads : (stripeLine 12 (2 ∷ 509 ∷ 0 ∷ 0 ∷ []) ≡ 0x31 ∷ 0x32 ∷ 0x20 ∷ 0x54 ∷ 0x4F ∷ 0x52 ∷ 0x4E ∷ 0x20 ∷ 0x35 ∷ 0x30 ∷ 0x39 ∷ 0x0A ∷ [])
+    × (stripeLine 12 (2 ∷ 512 ∷ 0 ∷ 0 ∷ []) ≡ 0x31 ∷ 0x32 ∷ 0x20 ∷ 0x54 ∷ 0x4F ∷ 0x52 ∷ 0x4E ∷ 0x20 ∷ 0x35 ∷ 0x31 ∷ 0x32 ∷ 0x0A ∷ [])
 unfolding stripeLine tornWord decimal
-torn-line-reads = refl
+torn-line-reads = (refl, refl)
 
 -- "TOTAL 1000 clean 991 bad 2 unchecked 3 torn 4"
 pub total-line-reads : totalLine fiveByThousand (record { clean = 991; bad = 2; unchecked = 3; torn = 4 }) ≡ 0x54 ∷ 0x4F ∷ 0x54 ∷ 0x41 ∷ 0x4C ∷ 0x20 ∷ 0x31 ∷ 0x30 ∷ 0x30 ∷ 0x30 ∷ 0x20 ∷ 0x63 ∷ 0x6C ∷ 0x65 ∷ 0x61 ∷ 0x6E ∷ 0x20 ∷ 0x39
@@ -60,42 +61,86 @@ refused-line-reads = refl
 abbrev header : List ℕ
 header = 0x00 ∷ 0x07 ∷ 0x01 ∷ 0x03 ∷ 0x05 ∷ 0x01 ∷ 0x02 ∷ 0x03 ∷ 0x04 ∷ []
 
-pub header-reads : arrayIn header ≡ arrayOf 3 0x01020304 5
-unfolding arrayIn formOf numberOf
+pub header-reads : arrayIn header ≡ arrayOf 3 0x01020304 5 1
+unfolding arrayIn later formOf numberOf
 header-reads = refl
 
 pub header-accepted : headerRefusal header ≡ 0
-unfolding headerRefusal formOf formSize arrayRefusal arrayIn numberOf
+unfolding headerRefusal formOf formSize arrayRefusal arrayIn later numberOf
 header-accepted = refl
 
 -- a byte short
 pub short-refused : headerRefusal (0x00 ∷ 0x07 ∷ 0x01 ∷ 0x03 ∷ 0x05 ∷ 0x01 ∷ 0x02 ∷ 0x03 ∷ []) ≡ 10
-unfolding headerRefusal formOf formSize arrayRefusal arrayIn numberOf
+unfolding headerRefusal formOf formSize arrayRefusal arrayIn later numberOf
 short-refused = refl
 
 -- length 8; length 0700h, the two bytes exchanged
 pub length-eight-refused : headerRefusal (0x00 ∷ 0x08 ∷ 0x01 ∷ 0x03 ∷ 0x05 ∷ 0x01 ∷ 0x02 ∷ 0x03 ∷ 0x04 ∷ []) ≡ 10
-unfolding headerRefusal formOf formSize arrayRefusal arrayIn numberOf
+unfolding headerRefusal formOf formSize arrayRefusal arrayIn later numberOf
 length-eight-refused = refl
 
 pub length-exchanged-refused : headerRefusal (0x07 ∷ 0x00 ∷ 0x01 ∷ 0x03 ∷ 0x05 ∷ 0x01 ∷ 0x02 ∷ 0x03 ∷ 0x04 ∷ []) ≡ 10
-unfolding headerRefusal formOf formSize arrayRefusal arrayIn numberOf
+unfolding headerRefusal formOf formSize arrayRefusal arrayIn later numberOf
 length-exchanged-refused = refl
 
--- version 2; and at its third byte
-pub version-two-refused : headerRefusal (0x00 ∷ 0x07 ∷ 0x02 ∷ 0x03 ∷ 0x05 ∷ 0x01 ∷ 0x02 ∷ 0x03 ∷ 0x04 ∷ []) ≡ 10
-unfolding headerRefusal formOf formSize arrayRefusal arrayIn numberOf
-version-two-refused = refl
+-- version 3; and at its third byte
+pub version-three-refused : headerRefusal (0x00 ∷ 0x07 ∷ 0x03 ∷ 0x03 ∷ 0x05 ∷ 0x01 ∷ 0x02 ∷ 0x03 ∷ 0x04 ∷ []) ≡ 10
+unfolding headerRefusal formOf formSize arrayRefusal arrayIn later numberOf
+version-three-refused = refl
 
-pub three-bytes-refused : headerRefusal (0x00 ∷ 0x07 ∷ 0x02 ∷ []) ≡ 10
-unfolding headerRefusal formOf formSize arrayRefusal arrayIn numberOf
+pub three-bytes-refused : headerRefusal (0x00 ∷ 0x07 ∷ 0x03 ∷ []) ≡ 10
+unfolding headerRefusal formOf formSize arrayRefusal arrayIn later numberOf
 three-bytes-refused = refl
 
 -- 2 members; no stripes
 pub two-members-refused : headerRefusal (0x00 ∷ 0x07 ∷ 0x01 ∷ 0x02 ∷ 0x05 ∷ 0x01 ∷ 0x02 ∷ 0x03 ∷ 0x04 ∷ []) ≡ 1
-unfolding headerRefusal formOf formSize arrayRefusal arrayIn numberOf
+unfolding headerRefusal formOf formSize arrayRefusal arrayIn later numberOf
 two-members-refused = refl
 
 pub no-stripes-refused : headerRefusal (0x00 ∷ 0x07 ∷ 0x01 ∷ 0x03 ∷ 0x05 ∷ 0x00 ∷ 0x00 ∷ 0x00 ∷ 0x00 ∷ []) ≡ 2
-unfolding headerRefusal formOf formSize arrayRefusal arrayIn numberOf
+unfolding headerRefusal formOf formSize arrayRefusal arrayIn later numberOf
 no-stripes-refused = refl
+
+-- ---- headers of version 2
+
+-- length 8, and method 2 behind the stripes
+abbrev secondHeader : List ℕ
+secondHeader = 0x00 ∷ 0x08 ∷ 0x02 ∷ 0x03 ∷ 0x05 ∷ 0x01 ∷ 0x02 ∷ 0x04 ∷ 0x06 ∷ 0x02 ∷ []
+
+pub second-header-reads : arrayIn secondHeader ≡ arrayOf 3 0x01020406 5 2
+unfolding arrayIn later formOf numberOf
+second-header-reads = refl
+
+pub second-header-accepted : headerRefusal secondHeader ≡ 0
+unfolding headerRefusal formOf formSize arrayRefusal arrayIn later numberOf
+second-header-accepted = refl
+
+-- method 1 can be said too; methods 0 and 3 are refused, behind all else
+pub second-header-methods : headerRefusal (0x00 ∷ 0x08 ∷ 0x02 ∷ 0x03 ∷ 0x05 ∷ 0x01 ∷ 0x02 ∷ 0x04 ∷ 0x06 ∷ 0x01 ∷ []) ≡ 0
+unfolding headerRefusal formOf formSize arrayRefusal arrayIn later numberOf
+second-header-methods = refl
+
+pub method-none-refused : headerRefusal (0x00 ∷ 0x08 ∷ 0x02 ∷ 0x03 ∷ 0x05 ∷ 0x01 ∷ 0x02 ∷ 0x04 ∷ 0x06 ∷ 0x00 ∷ []) ≡ 12
+unfolding headerRefusal formOf formSize arrayRefusal arrayIn later numberOf
+method-none-refused = refl
+
+pub method-three-refused : headerRefusal (0x00 ∷ 0x08 ∷ 0x02 ∷ 0x03 ∷ 0x05 ∷ 0x01 ∷ 0x02 ∷ 0x04 ∷ 0x06 ∷ 0x03 ∷ []) ≡ 12
+unfolding headerRefusal formOf formSize arrayRefusal arrayIn later numberOf
+method-three-refused = refl
+
+pub stripes-before-method : headerRefusal (0x00 ∷ 0x08 ∷ 0x02 ∷ 0x03 ∷ 0x05 ∷ 0x00 ∷ 0x00 ∷ 0x00 ∷ 0x00 ∷ 0x03 ∷ []) ≡ 2
+unfolding headerRefusal formOf formSize arrayRefusal arrayIn later numberOf
+stripes-before-method = refl
+
+-- a byte short; each version with the other's length, whatever bytes came
+pub second-short-refused : headerRefusal (0x00 ∷ 0x08 ∷ 0x02 ∷ 0x03 ∷ 0x05 ∷ 0x01 ∷ 0x02 ∷ 0x04 ∷ 0x06 ∷ []) ≡ 10
+unfolding headerRefusal formOf formSize arrayRefusal arrayIn later numberOf
+second-short-refused = refl
+
+pub second-length-seven-refused : headerRefusal (0x00 ∷ 0x07 ∷ 0x02 ∷ 0x03 ∷ 0x05 ∷ 0x01 ∷ 0x02 ∷ 0x04 ∷ 0x06 ∷ 0x02 ∷ []) ≡ 10
+unfolding headerRefusal formOf formSize arrayRefusal arrayIn later numberOf
+second-length-seven-refused = refl
+
+pub first-length-eight-refused : headerRefusal (0x00 ∷ 0x08 ∷ 0x01 ∷ 0x03 ∷ 0x05 ∷ 0x01 ∷ 0x02 ∷ 0x04 ∷ 0x06 ∷ 0x02 ∷ []) ≡ 10
+unfolding headerRefusal formOf formSize arrayRefusal arrayIn later numberOf
+first-length-eight-refused = refl

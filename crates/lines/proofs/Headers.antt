@@ -8,56 +8,76 @@ use Prim.Native.Nat.{ℕ, zero, suc, _+_, _-_, _*_, _≤_, _<_, min}
 use native.Mathlib.Nat.{add-zero}
 use native.Mathlib.Decide.{decLt}
 use native.Mathlib.Omega.{arith}
-use borrow.Author.Tests.{le-leb, lt-leb, eq-eqb, ne-eqb}
-use lib.Dec.{eqb, leb, lit≤}
+use borrow.Author.Tests.{ltb-true, le-leb, lt-leb, eq-eqb, ne-eqb}
+use lib.Dec.{eqb, leb, ltb, lit≤}
 use lib.ListN.{length, getD, take, drop, List·getD-append, length-append, length-take}
 use lib.Seq.{take-take, getD-take}
 use Rattle.layout.specs.Answers.{refuse}
-use Rattle.layout.specs.Arrays.{arrayRefusal}
+use Rattle.layout.specs.Arrays.{arrayOf, arrayRefusal}
 use Rattle.layout.specs.Ranges.{Sound}
 use Rattle.layout.proofs.Answers.{refuse-none}
 use Rattle.layout.proofs.Ranges.{array-sound}
 use Rattle.tag.specs.Numbers.{numberOf}
 use Rattle.tag.proofs.Numbers.{number-of-two, elementsFrom, take-elements}
 use Rattle.lines.specs.declared.header.Form.{Form}
-use Rattle.lines.specs.Headers.{headerRoom, form, formOf, headerForm, known, formSize, headerSize, arrayIn, headerRefusal}
+use Rattle.lines.specs.Headers.{headerRoom, form, formOf, headerForm, known, formSize, headerSize, later, arrayIn, headerRefusal}
 
 -- ---- forms
 
 -- what holds of every row, and of no form, holds of every version's
-by-row : (P : Form → Type 0) → P (form 4 0) → P (form 0 0) → (version : ℕ) → P (formOf version)
+by-row : (P : Form → Type 0) → P (form 4 0) → P (form 4 1) → P (form 0 0) → (version : ℕ) → P (formOf version)
 unfolding formOf
-by-row P first none version = choose (eqb version 1)
+by-row P first second none version = choose (eqb version 1) (eqb version 2)
   where
-    choose : (t : Bool) → P (cond t (form 4 0) (form 0 0))
-    choose true = first
-    choose false = none
+    choose : (t u : Bool) → P (cond t (form 4 0) (cond u (form 4 1) (form 0 0)))
+    choose true u = first
+    choose false true = second
+    choose false false = none
 
 pub wide-most : (version : ℕ) → formOf version .wide ≤ 8
-wide-most = by-row (λ f. f .wide ≤ 8) (lit≤ tt) (lit≤ tt)
+wide-most = by-row (λ f. f .wide ≤ 8) (lit≤ tt) (lit≤ tt) (lit≤ tt)
 
 pub form-most : (version : ℕ) → 5 + formOf version .wide + formOf version .more ≤ headerRoom
-form-most = by-row (λ f. 5 + f .wide + f .more ≤ headerRoom) (lit≤ tt) (lit≤ tt)
+form-most = by-row (λ f. 5 + f .wide + f .more ≤ headerRoom) (lit≤ tt) (lit≤ tt) (lit≤ tt)
+
+-- where a later number stands that the version tells
+pub later-inside : (version k : ℕ) (f : Form) → f ≡ formOf version → k < f .more → 5 + f .wide + k < headerRoom
+later-inside version k f e h =
+    let wide : f .wide ≡ formOf version .wide = ap (λ (g : Form). g .wide) e in
+    let more : f .more ≡ formOf version .more = ap (λ (g : Form). g .more) e in
+    omega (arith, form-most version)
 
 pub size-least : (version : ℕ) → 3 ≤ formSize (formOf version)
 unfolding formSize
-size-least = by-row (λ f. 3 ≤ formSize f) (lit≤ tt) (lit≤ tt)
+size-least = by-row (λ f. 3 ≤ formSize f) (lit≤ tt) (lit≤ tt) (lit≤ tt)
 
 pub size-most : (version : ℕ) → formSize (formOf version) ≤ headerRoom
 unfolding formSize
-size-most = by-row (λ f. formSize f ≤ headerRoom) (lit≤ tt) (lit≤ tt)
+size-most = by-row (λ f. formSize f ≤ headerRoom) (lit≤ tt) (lit≤ tt) (lit≤ tt)
 
 size-unknown : (version : ℕ) → formSize (formOf version) ≡ 3 → known (formOf version) ≡ false
 unfolding formSize
-size-unknown = by-row (λ f. formSize f ≡ 3 → known f ≡ false) (λ e. absurd (omega arith)) (λ e. refl)
+size-unknown = by-row (λ f. formSize f ≡ 3 → known f ≡ false) (λ e. absurd (omega arith)) (λ e. absurd (omega arith)) (λ e. refl)
 
 size-known : (version : ℕ) → formSize (formOf version) ≢ 3 → known (formOf version) ≡ true
 unfolding formSize
-size-known = by-row (λ f. formSize f ≢ 3 → known f ≡ true) (λ e. refl) (λ e. absurd (e refl))
+size-known = by-row (λ f. formSize f ≢ 3 → known f ≡ true) (λ e. refl) (λ e. refl) (λ e. absurd (e refl))
 
 size-of-known : (version : ℕ) → formSize (formOf version) ≢ 3 → formSize (formOf version) ≡ 5 + formOf version .wide + formOf version .more
 unfolding formSize
-size-of-known = by-row (λ f. formSize f ≢ 3 → formSize f ≡ 5 + f .wide + f .more) (λ e. refl) (λ e. absurd (e refl))
+size-of-known = by-row (λ f. formSize f ≢ 3 → formSize f ≡ 5 + f .wide + f .more) (λ e. refl) (λ e. refl) (λ e. absurd (e refl))
+
+-- ---- version 2
+
+module _ (bytes : List ℕ) (second : getD bytes 2 0 ≡ 2) where
+  pub ten-bytes : headerSize bytes ≡ 10
+  unfolding formOf formSize
+  ten-bytes = rw second
+
+  -- version 1's numbers, and the last byte is the method
+  pub method-told : arrayIn bytes ≡ arrayOf (getD bytes 3 0) (numberOf (take 4 (drop 5 bytes))) (getD bytes 4 0) (getD bytes 9 0)
+  unfolding arrayIn later formOf
+  method-told = rw second
 
 -- ---- a header that comes in pieces
 
@@ -136,11 +156,22 @@ module _ (header : List ℕ) (have : ℕ) (long : length header ≡ headerRoom) 
       (take-elements (take have header) at 0 n (omega (arith, length-taken)) ∙ elements-taken header have at 0 n (omega arith)
       ∙ sym (take-elements header at 0 n (omega arith)))
 
-  array-taken : 3 ≤ have → 5 + headerForm header .wide ≤ have → arrayIn (take have header) ≡ arrayIn header
+  later-taken : (k : ℕ) → 3 ≤ have → 5 + headerForm header .wide + headerForm header .more ≤ have → later (take have header) k ≡ later header k
+  unfolding later
+  later-taken k h room =
+      rw (form-taken h) (by-test (ltb k (headerForm header .more)) (ltb-true k (headerForm header .more)))
+    where
+      by-test : (t : Bool) → (t ≡ true → k < headerForm header .more)
+          → cond t (getD (take have header) (5 + headerForm header .wide + k) 0) 1 ≡ cond t (getD header (5 + headerForm header .wide + k) 0) 1
+      by-test true e = let told : k < headerForm header .more = e refl in getD-take have header (5 + headerForm header .wide + k) 0 (omega arith)
+      by-test false e = refl
+
+  array-taken : 3 ≤ have → 5 + headerForm header .wide + headerForm header .more ≤ have → arrayIn (take have header) ≡ arrayIn header
   unfolding arrayIn
   array-taken h room =
       rw (
         form-taken h,
+        later-taken 0 h room,
         part-taken 5 (headerForm header .wide) (omega arith) (omega (arith, form-most (getD header 2 0))),
         getD-take have header 3 0 (omega arith),
         getD-take have header 4 0 (omega arith),
@@ -172,8 +203,8 @@ module _ (header : List ℕ) (have : ℕ) (long : length header ≡ headerRoom) 
       pub whole-array : arrayIn (take have header) ≡ arrayIn header
       whole-array =
           let whole = size-of-known (getD (take have header) 2 0) (λ f. some (told ∙ f)) in
-          let came : 5 + headerForm (take have header) .wide ≤ have = omega (arith, whole) in
-          let room : 5 + headerForm header .wide ≤ have = rw (form-taken three) at came in
+          let came : 5 + headerForm (take have header) .wide + headerForm (take have header) .more ≤ have = omega (arith, whole) in
+          let room : 5 + headerForm header .wide + headerForm header .more ≤ have = rw (form-taken three) at came in
           array-taken three room
 
       pub length-refused : getD header 0 0 * 256 + getD header 1 0 ≢ size - 2 → headerRefusal (take have header) ≡ 10

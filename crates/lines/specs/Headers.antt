@@ -1,9 +1,9 @@
 -- The header of an image: two bytes of length, a version, the members, the volume; then, by the version, the bytes of the stripes and
--- later numbers, a byte each. Assumes nothing.
+-- the later numbers, a byte each: the method. Assumes nothing.
 use Prim.Native.Nat.{ℕ, _+_, _-_}
 use mathlib.Core.Bool.{Bool, not, cond, _&&_}
 use mathlib.Core.List.{List}
-use lib.Dec.{leb, eqb}
+use lib.Dec.{leb, ltb, eqb}
 use lib.ListN.{length, getD, take, drop}
 use Rattle.layout.specs.Answers.{refuse}
 use Rattle.layout.specs.Arrays.{arrayOf, arrayRefusal}
@@ -23,7 +23,8 @@ form wide more = record { wide = wide; more = more }
 unfoldable pub formOf : ℕ → Form
 formOf version =
     cond (eqb version 1) (form 4 0)
-    (form 0 0)
+    (cond (eqb version 2) (form 4 1)
+    (form 0 0))
 
 -- the form of the header that begins so, unknown where its version has not come
 abbrev pub headerForm : List ℕ → Form
@@ -39,8 +40,12 @@ formSize f = cond (known f) (5 + f .wide + f .more) 3
 abbrev pub headerSize : List ℕ → ℕ
 headerSize bytes = formSize (headerForm bytes)
 
+-- the k-th of the later numbers, which stand behind the stripes; 1 where the version does not tell it
+unfoldable pub later : List ℕ → ℕ → ℕ
+later bytes k = cond (ltb k (headerForm bytes .more)) (getD bytes (5 + headerForm bytes .wide + k) 0) 1
+
 unfoldable pub arrayIn : List ℕ → Array
-arrayIn bytes = arrayOf (getD bytes 3 0) (numberOf (take (headerForm bytes .wide) (drop 5 bytes))) (getD bytes 4 0)
+arrayIn bytes = arrayOf (getD bytes 3 0) (numberOf (take (headerForm bytes .wide) (drop 5 bytes))) (getD bytes 4 0) (later bytes 0)
 
 -- 10 where its version is in no row, it is short, or it says another length than that of the bytes that follow the first two; then the
 -- array's own refusal

@@ -5,7 +5,7 @@ ghost use mathlib.Core.Path.{_≡_};
 ghost use Prim.Native.Nat.{_+_, _≤_};
 ghost use lib.ListN.{take, drop};
 ghost use Rattle.tag.specs.Numbers.{numberOf};
-ghost use Rattle.lines.specs.Headers.{formOf, headerSize, arrayIn, headerRefusal};
+ghost use Rattle.lines.specs.Headers.{formOf, headerSize, later, arrayIn, headerRefusal};
 
 // Room for the longest header.
 pub const HEADER: usize = 15;
@@ -22,6 +22,9 @@ fn form_of(version: u8) -> Form
 {
     if version == 1 {
         return Form { wide: 4, more: 0 };
+    }
+    if version == 2 {
+        return Form { wide: 4, more: 1 };
     }
     Form { wide: 0, more: 0 }
 }
@@ -41,6 +44,16 @@ fn number_in(header: [u8; HEADER], at: usize, count: usize) -> u64
     number
 }
 
+// One of the later numbers of a header; 1 where its version does not tell it.
+fn later(header: [u8; HEADER], k: usize) -> u8
+    ensures { λ r. ⌜ r ≡ later header k ⌝ }
+{
+    let form = form_of(header[2]);
+    let wide = form.wide;
+    let more = form.more;
+    if k < more { header[5 + wide + k] } else { 1 }
+}
+
 // The array's numbers in a header.
 pub fn array_in(header: [u8; HEADER]) -> Array
     ensures { λ r. ⌜ r ≡ arrayIn header ⌝ }
@@ -48,7 +61,8 @@ pub fn array_in(header: [u8; HEADER]) -> Array
     let form = form_of(header[2]);
     let wide = form.wide;
     let stripes = number_in(header, 5, wide);
-    layout::array_of(header[3] as usize, stripes, header[4])
+    let method = later(header, 0);
+    layout::array_of(header[3] as usize, stripes, header[4], method)
 }
 
 // How many bytes the header has of which `have` came; 3 where its version has not come, or is in no row.

@@ -24,7 +24,7 @@ use Rattle.report.specs.declared.Report.{Report}
 use Rattle.report.specs.Reports.{none, stripeLines, reportOf}
 use Rattle.report.specs.Feeding.{workLength, holding, entering, ended, headerCame, headerWhole, headerHeld, headerTook, freshReport}
 use Rattle.report.proofs.Blocks.{stripe-some}
-use Rattle.report.proofs.Scanning.{scan-starts}
+use Rattle.report.proofs.Scanning.{work-fits, scan-starts}
 use Rattle.report.proofs.Stages.{inHeader, inStripe, over, StandsInHeader, StandsInStripe, Leads}
 use Rattle.report.proofs.Storing.{stored}
 
@@ -62,7 +62,7 @@ module _ (used : ℕ) (r : Report) (w h : List ℕ) (came : headerCame r ≡ h) 
         sound = sound;
         tally = refl;
         counted = record { clean = zero-le; bad = zero-le; unchecked = zero-le; torn = zero-le };
-        scanned = scan-starts a 0 sound w work;
+        scanned = scan-starts a 0 sound w (work-fits a w work);
       }
 
   pub whole-header-leads : Leads (λ rest. reportOf (h ++ rest)) used (headerWhole used r w)

@@ -9,7 +9,7 @@ use Rattle.layout.specs.declared.Array.{Array}
 use Rattle.tag.specs.Numbers.{numberOf}
 use Rattle.lines.specs.Text.{decimal, refusedWord}
 use Rattle.lines.specs.Lines.{firstLine, refusedLine, Tally, lineRoom}
-use Rattle.lines.specs.Headers.{formOf, formSize, arrayIn, headerRefusal}
+use Rattle.lines.specs.Headers.{formOf, formSize, later, arrayIn, headerRefusal}
 use Rattle.report.specs.Reports.{ending, stripeLines, reportOf}
 use Rattle.report.specs.Feeding.{headerWhole, headerHeld, headerTook, stageStep, feedStep, closeLine, freshReport}
 use Rattle.report.specs.Fills.{fillSteps, fillStep, fedText}
@@ -20,35 +20,48 @@ refusedWith digit = 0x52 ∷ 0x45 ∷ 0x46 ∷ 0x55 ∷ 0x53 ∷ 0x45 ∷ 0x44 �
 
 -- no byte at all
 nothing-came : reportOf [] ≡ 0x52 ∷ 0x45 ∷ 0x46 ∷ 0x55 ∷ 0x53 ∷ 0x45 ∷ 0x44 ∷ 0x20 ∷ 0x31 ∷ 0x30 ∷ 0x0A ∷ []
-unfolding reportOf headerRefusal formOf formSize arrayRefusal arrayIn numberOf refusedLine refusedWord decimal
+unfolding reportOf headerRefusal formOf formSize arrayRefusal arrayIn later numberOf refusedLine refusedWord decimal
 nothing-came = refl
 
--- another length; another version
+-- another length, of both versions; another version
 other-length : reportOf (0 ∷ 8 ∷ 1 ∷ 3 ∷ 7 ∷ 0 ∷ 0 ∷ 0 ∷ 1 ∷ []) ≡ refusedLine 10
-unfolding reportOf headerRefusal formOf formSize arrayRefusal arrayIn numberOf
+unfolding reportOf headerRefusal formOf formSize arrayRefusal arrayIn later numberOf
 other-length = refl
 
-other-version : reportOf (0 ∷ 7 ∷ 2 ∷ 3 ∷ 7 ∷ 0 ∷ 0 ∷ 0 ∷ 1 ∷ []) ≡ refusedLine 10
-unfolding reportOf headerRefusal formOf formSize arrayRefusal arrayIn numberOf
+second-other-length : reportOf (0 ∷ 7 ∷ 2 ∷ 3 ∷ 7 ∷ 0 ∷ 0 ∷ 0 ∷ 1 ∷ 2 ∷ []) ≡ refusedLine 10
+unfolding reportOf headerRefusal formOf formSize arrayRefusal arrayIn later numberOf
+second-other-length = refl
+
+other-version : reportOf (0 ∷ 7 ∷ 3 ∷ 3 ∷ 7 ∷ 0 ∷ 0 ∷ 0 ∷ 1 ∷ []) ≡ refusedLine 10
+unfolding reportOf headerRefusal formOf formSize arrayRefusal arrayIn later numberOf
 other-version = refl
 
 -- two members; no stripe
 two-members : reportOf (0 ∷ 7 ∷ 1 ∷ 2 ∷ 7 ∷ 0 ∷ 0 ∷ 0 ∷ 1 ∷ []) ≡ refusedWith 0x31
-unfolding reportOf headerRefusal formOf formSize arrayRefusal arrayIn numberOf refusedLine refusedWord decimal refusedWith
+unfolding reportOf headerRefusal formOf formSize arrayRefusal arrayIn later numberOf refusedLine refusedWord decimal refusedWith
 two-members = refl
 
 no-stripes : reportOf (0 ∷ 7 ∷ 1 ∷ 3 ∷ 7 ∷ 0 ∷ 0 ∷ 0 ∷ 0 ∷ []) ≡ refusedWith 0x32
-unfolding reportOf headerRefusal formOf formSize arrayRefusal arrayIn numberOf refusedLine refusedWord decimal refusedWith
+unfolding reportOf headerRefusal formOf formSize arrayRefusal arrayIn later numberOf refusedLine refusedWord decimal refusedWith
 no-stripes = refl
+
+-- a method that there is not, "REFUSED 12"
+no-such-method : reportOf (0 ∷ 8 ∷ 2 ∷ 3 ∷ 7 ∷ 0 ∷ 0 ∷ 0 ∷ 1 ∷ 3 ∷ []) ≡ 0x52 ∷ 0x45 ∷ 0x46 ∷ 0x55 ∷ 0x53 ∷ 0x45 ∷ 0x44 ∷ 0x20 ∷ 0x31 ∷ 0x32 ∷ 0x0A ∷ []
+unfolding reportOf headerRefusal formOf formSize arrayRefusal arrayIn later numberOf refusedLine refusedWord decimal
+no-such-method = refl
 
 -- "REFUSED 11"
 refusedEleven : List ℕ
 refusedEleven = 0x52 ∷ 0x45 ∷ 0x46 ∷ 0x55 ∷ 0x53 ∷ 0x45 ∷ 0x44 ∷ 0x20 ∷ 0x31 ∷ 0x31 ∷ 0x0A ∷ []
 
--- three members and one stripe, and no byte of it: the first line, and refusal 11
-ends-early : reportOf (0 ∷ 7 ∷ 1 ∷ 3 ∷ 7 ∷ 0 ∷ 0 ∷ 0 ∷ 1 ∷ []) ≡ firstLine (arrayOf 3 1 7) ++ refusedEleven
-unfolding formatOf formOf formSize reportOf stripeLines headerRefusal arrayRefusal arrayIn numberOf refusedLine refusedWord decimal refusedEleven
+-- three members and one stripe, and no byte of it: the first line, and refusal 11; so with a header of version 2
+ends-early : reportOf (0 ∷ 7 ∷ 1 ∷ 3 ∷ 7 ∷ 0 ∷ 0 ∷ 0 ∷ 1 ∷ []) ≡ firstLine (arrayOf 3 1 7 1) ++ refusedEleven
+unfolding formatOf formOf formSize reportOf stripeLines headerRefusal arrayRefusal arrayIn later numberOf refusedLine refusedWord decimal refusedEleven
 ends-early = refl
+
+second-ends-early : reportOf (0 ∷ 8 ∷ 2 ∷ 3 ∷ 7 ∷ 0 ∷ 0 ∷ 0 ∷ 1 ∷ 2 ∷ []) ≡ firstLine (arrayOf 3 1 7 2) ++ refusedEleven
+unfolding formatOf formOf formSize reportOf stripeLines headerRefusal arrayRefusal arrayIn later numberOf refusedLine refusedWord decimal refusedEleven
+second-ends-early = refl
 
 -- a byte behind the last stripe
 goes-on : (a : Array) (t : Tally) (byte : ℕ) (bytes : List ℕ) → ending a t (byte ∷ bytes) ≡ refusedEleven
@@ -72,6 +85,7 @@ unfolding
     formSize
     arrayRefusal
     arrayIn
+    later
     numberOf
     refusedLine
     refusedWord

@@ -9,6 +9,7 @@ use lib.ListN.{length, getD}
 use Rattle.layout.specs.Answers.{answer}
 use Rattle.layout.specs.Arrays.{stripeRefusal}
 use Rattle.layout.specs.declared.Array.{Array}
+use Rattle.format.proofs.Laws.{same-data}
 use Rattle.tag.specs.Blocks.{formatAt}
 use Rattle.stripe.specs.Tables.{table}
 use Rattle.stripe.specs.Stripes.{stripeLength, blockOf}
@@ -24,11 +25,16 @@ use Rattle.scan.proofs.States.{finish-numbers-are, piece-holds, work-long}
 use Rattle.scan.proofs.Starts.{start-holds}
 use Rattle.scan.proofs.Feeding.{finish-answers}
 use Rattle.report.specs.Reports.{verdictOf}
+use Rattle.report.specs.Feeding.{workLength}
 use Rattle.report.proofs.Filling.{begun-blocks, blocks-whole, blocks-kept}
 
 -- the scan of a stripe of which these bytes have come
 abbrev pub Scanned : Array → ℕ → List ℕ → Scan → List ℕ → Type 0
 Scanned a stripe bytes s w = Holds a stripe s w (table (a .members) (blockOf (formatAt a) bytes))
+
+-- a work buffer fits every array: blocks of all methods have as many bytes of data
+pub work-fits : (a : Array) (w : List ℕ) → length w ≡ workLength → length w ≡ formatAt a .dataLength
+work-fits a w long = long ∙ same-data 0 (a .method)
 
 module _ (a : Array) (stripe : ℕ) (sound : stripeRefusal a stripe ≡ 0) where
   pub scan-starts : (old : List ℕ) → length old ≡ formatAt a .dataLength → Scanned a stripe [] (startState a stripe (length old)) (startWork a stripe old)

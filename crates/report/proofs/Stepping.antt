@@ -2,7 +2,7 @@
 -- and what it writes fits. Assumes nothing.
 use mathlib.Core.Path.{_≡_, refl, sym, ap, _∙_}
 use mathlib.Core.List.{List, [], _∷_, _++_, append-nil}
-use Prim.Native.Nat.{ℕ, zero, suc, _-_, _≤_, _<_, zero-le}
+use Prim.Native.Nat.{ℕ, zero, suc, _-_, _%_, _≤_, _<_, zero-le}
 use native.Mathlib.Decide.{decLt}
 use native.Mathlib.Omega.{arith}
 use lib.ListN.{length, take, length-take}
@@ -65,9 +65,11 @@ module _ (r : Report) (input w : List ℕ) (room : ℕ) where
         rw (in-the-header r input w (q .stage)) (over-first (inHeader h) (headerLacks r) (headerTook r (take (headerLacks r) input) w)
         (rw lacks (omega (arith, q .short))) (header-leads h r w (take (headerLacks r) input) q (rw lacks (simp length-take (omega (arith, q .short))))))
     stage-feeds (inStripe a stripe t h) q =
+        let lacks : blockLacks r ≡ formatAt a .blockLength - r .have % formatAt a .blockLength =
+        ap (λ (b : Array). formatAt b .blockLength - r .have % formatAt b .blockLength) (q .scanned .array) in
         rw (in-a-stripe r input w (q .stage) (is-fit a stripe t h r w q)) (over-first (inStripe a stripe t h) (blockLacks r)
         (stripeTook r (take (blockLacks r) input) w) (omega (arith, rest-short (formatAt (r .scan .array)) (r .have)))
-        (stripe-leads a stripe t h r w q (take (blockLacks r) input) (simp length-take (omega (arith, rest-short (formatAt a) (r .have))))))
+        (stripe-leads a stripe t h r w q (take (blockLacks r) input) (simp length-take (omega (arith, lacks, rest-short (formatAt a) (r .have))))))
     stage-feeds (behind a t) q =
         rw (behind-the-last r input w (q .stage)) record {
           to = over;

@@ -1,6 +1,6 @@
 -- Bytes of a stripe: the scan goes on, and with the last of them the stripe has its line, and the next stripe begins if there is one.
 -- Assumes nothing.
-use mathlib.Core.Path.{_≡_, refl, sym, ap, _∙_}
+use mathlib.Core.Path.{_≡_, refl, sym, ap, _∙_, subst}
 use mathlib.Core.Bool.{Bool, true, false, cond}
 use mathlib.Core.List.{List, [], _++_, append-assoc}
 use Prim.Native.Nat.{ℕ, suc, _+_, _-_, _/_, _%_, _≤_, _<_, zero-le}
@@ -160,10 +160,14 @@ module _ (a : Array) (stripe : ℕ) (t : Tally) (h : List ℕ) (r : Report) (w :
     have-short : r .have < stripeLength a
     have-short = omega (arith, q .have, q .short)
 
+    there : r .have / formatAt a .blockLength ≡ memberNow r
+    there = ap (λ (b : Array). r .have / formatAt b .blockLength) (sym (q .scanned .array))
+
     scanned-now : Scanned a stripe (h ++ bytes) scan-now work-now
     scanned-now =
-        scan-goes-on a stripe (q .sound) (r .scan) w h (q .scanned) bytes (r .have / formatAt a .blockLength) (r .have % formatAt a .blockLength)
-        (sym (q .have) ∙ blocks-and-rest (formatAt a) (r .have)) room (block-there (formatAt a) (r .have) (a .members) have-short)
+        subst (λ (m : ℕ). Scanned a stripe (h ++ bytes) (pieceState (r .scan) m bytes (length w)) (pieceWork (r .scan) m bytes w)) there
+        (scan-goes-on a stripe (q .sound) (r .scan) w h (q .scanned) bytes (r .have / formatAt a .blockLength) (r .have % formatAt a .blockLength)
+        (sym (q .have) ∙ blocks-and-rest (formatAt a) (r .have)) room (block-there (formatAt a) (r .have) (a .members) have-short))
 
     still-short : r .have + length bytes < stripeLength a → StandsInStripe a stripe t (h ++ bytes) held work-now
     still-short l =

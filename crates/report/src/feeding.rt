@@ -6,7 +6,6 @@ use crate::entering;
 use crate::stripe_took;
 use crate::stripes::block_lacks;
 use crate::stripes::stripe_fit;
-use format::METHOD;
 use lines::HEADER;
 use lines::ROOM;
 use scan::Scan;
@@ -148,7 +147,8 @@ fn stripe_step(report: Report, input: &[u8], work: &mut [u8], out: &mut [u8]) ->
             written: 0,
         };
     }
-    let lacks = block_lacks(METHOD, have);
+    let array = report.scan.array;
+    let lacks = block_lacks(array, have);
     let count = least(lacks, input.len());
     stripe_took(report, &input[0..count], work, out)
 }

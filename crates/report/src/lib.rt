@@ -7,17 +7,18 @@ pub use feeding::close;
 pub use feeding::feed;
 pub use feeding::new;
 pub use fills::fill;
-use format::METHOD;
+use layout::Array;
 use lines::HEADER;
 use scan::Scan;
 use verdict::Scrubbed;
 use verdict::Verdict;
 ghost use mathlib.Core.Path.{_≡_};
 ghost use mathlib.Core.Bool.{true};
-ghost use Prim.Native.Nat.{_+_, _*_, _/_, _≤_};
+ghost use Prim.Native.Nat.{_+_, _/_, _≤_};
 ghost use lib.ListN.{length};
 ghost use Rattle.verdict.specs.Verdicts.{verdictNumbers};
-ghost use Rattle.format.specs.Methods.{formatOf};
+ghost use Rattle.tag.specs.Blocks.{formatAt};
+ghost use Rattle.stripe.specs.Stripes.{stripeLength};
 ghost use Rattle.scan.specs.Scans.{finishNumbers};
 ghost use Rattle.lines.specs.Lines.{lineRoom};
 ghost use Rattle.report.specs.Reports.{counted};
@@ -205,19 +206,20 @@ fn stripe_whole(used: usize, report: Report, work: &mut [u8], out: &mut [u8]) ->
     }
 }
 
-// How many bytes a stripe of so many members has.
-fn stripe_length(method: u8, members: usize) -> usize
-    requires { ⌜ members ≤ 16 ⌝ }
-    ensures { λ r. ⌜ r ≡ formatOf method .blockLength * members ⌝ }
+// How many bytes a stripe of the array has.
+fn stripe_length(array: Array) -> usize
+    requires { ⌜ array .members ≤ 16 ⌝ }
+    ensures { λ r. ⌜ r ≡ stripeLength array ⌝ }
 {
-    format::block_length(method) * members
+    let members = array.members;
+    format::block_length(array.method) * members
 }
 
-// How many whole blocks some bytes are.
-fn whole_blocks(method: u8, have: usize) -> usize
-    ensures { λ r. ⌜ r ≡ have / formatOf method .blockLength ⌝ }
+// How many whole blocks of the array some bytes are.
+fn whole_blocks(array: Array, have: usize) -> usize
+    ensures { λ r. ⌜ r ≡ have / formatAt array .blockLength ⌝ }
 {
-    have / format::block_length(method)
+    have / format::block_length(array.method)
 }
 
 // Bytes of one block of the stripe.
@@ -229,15 +231,14 @@ fn stripe_took(report: Report, bytes: &[u8], work: &mut [u8], out: &mut [u8]) ->
 {
     let scan = report.scan;
     let array = scan.array;
-    let members = array.members;
     let have = report.have;
     let count = bytes.len();
-    let member = whole_blocks(METHOD, have);
+    let member = whole_blocks(array, have);
     let taken = scan::piece(scan, member, bytes, work);
     let next = taken.state;
     let now = have + count;
     let held = stripe_held(report, now, next);
-    if now < stripe_length(METHOD, members) {
+    if now < stripe_length(array) {
         return Fed {
             state: held,
             used: count,

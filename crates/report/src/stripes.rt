@@ -1,12 +1,12 @@
 // The stripes of an image that is fed: which states are fit to go on with.
 use crate::Report;
 use crate::stripe_length;
-use format::METHOD;
+use layout::Array;
 ghost use mathlib.Core.Path.{_≡_};
 ghost use mathlib.Core.Bool.{_&&_};
 ghost use Prim.Native.Nat.{_-_, _%_};
 ghost use lib.Dec.{leb};
-ghost use Rattle.format.specs.Methods.{formatOf};
+ghost use Rattle.tag.specs.Blocks.{formatAt};
 ghost use Rattle.report.specs.Feeding.{stripeFit};
 
 // No count is above the number of the stripes before.
@@ -32,7 +32,6 @@ pub fn stripe_fit(report: Report) -> bool
     let scan = report.scan;
     let array = scan.array;
     let stripe = scan.stripe;
-    let members = array.members;
     let have = report.have;
     let clean = report.clean;
     let bad = report.bad;
@@ -41,16 +40,16 @@ pub fn stripe_fit(report: Report) -> bool
     if layout::stripe_refusal(array, stripe) != 0 {
         return false;
     }
-    if have >= stripe_length(METHOD, members) {
+    if have >= stripe_length(array) {
         return false;
     }
     few(stripe, clean, bad, unchecked, torn)
 }
 
-// How many bytes a block lacks, when so many bytes of the stripe have come.
-pub fn block_lacks(method: u8, have: usize) -> usize
-    ensures { λ r. ⌜ r ≡ formatOf method .blockLength - have % formatOf method .blockLength ⌝ }
+// How many bytes a block of the array lacks, when so many bytes of the stripe have come.
+pub fn block_lacks(array: Array, have: usize) -> usize
+    ensures { λ r. ⌜ r ≡ formatAt array .blockLength - have % formatAt array .blockLength ⌝ }
 {
-    let block = format::block_length(method);
+    let block = format::block_length(array.method);
     block - have % block
 }

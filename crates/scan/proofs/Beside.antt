@@ -23,8 +23,8 @@ use Rattle.tag.specs.Blocks.{formatAt}
 use Rattle.tag.proofs.Numbers.{bytes-joined}
 use Rattle.verdict.specs.Verdicts.{quickNumbers}
 use Rattle.stripe.specs.Tables.{all}
-use Rattle.stripe.specs.Verdicts.{verdict, scrubBlocks, storedGuard}
-use Rattle.stripe.specs.Stripes.{Whole}
+use Rattle.stripe.specs.Verdicts.{verdict, scrubBlocks}
+use Rattle.stripe.specs.Stripes.{storedGuard, Whole}
 use Rattle.stripe.proofs.Quick.{fits-where-zero, differs-within}
 use Rattle.scan.specs.History.{Call, piece, finish, begun, pieceNumber, finishNumber, answerTo, kept, answers}
 use Rattle.scan.specs.CutAnywhere.{historyOf, ByteCalls, together, FoundAllGood, CutAnywhere}
@@ -73,19 +73,19 @@ module _ (a : Array) (stripe : ℕ) where
         bytes = history-bytes calls (begun (a .members)) bytes (λ i. rw (none-taken (a .members) i) (λ k. lit< tt));
       }
 
-  module _ (sound : Sound a) (calls : List Call) (bytes : ByteCalls calls)
+  module _ (plain : formatAt a .carries ≡ false) (sound : Sound a) (calls : List Call) (bytes : ByteCalls calls)
       (accepted : finishNumber (formatAt a .blockLength) (a .members) (scrubBlocks a stripe) (historyOf a stripe calls) ≡ 0)
       (none-bad : getD (scrubBlocks a stripe (historyOf a stripe calls)) 0 0 ≢ 1)
       (all-checked : getD (scrubBlocks a stripe (historyOf a stripe calls)) 0 0 ≢ 3) where
     pub quick-fits-beside : together a (historyOf a stripe calls) ≡ replicate (formatAt a .dataLength) 0
         → quickNumbers (map (storedGuard (formatAt a)) (historyOf a stripe calls)) ≡ 1 ∷ 0 ∷ 0 ∷ 0 ∷ []
-    quick-fits-beside = fits-where-zero a stripe (historyOf a stripe calls) sound (whole-history sound calls bytes accepted) none-bad all-checked
+    quick-fits-beside = fits-where-zero a stripe (historyOf a stripe calls) sound (whole-history sound calls bytes accepted) plain none-bad all-checked
 
     pub quick-differs-beside : together a (historyOf a stripe calls) ≢ replicate (formatAt a .dataLength) 0
         → Within 16 (bitsOf (together a (historyOf a stripe calls))) (bitsOf (replicate (formatAt a .dataLength) 0))
         → (guard (formatAt a) (together a (historyOf a stripe calls)) ≢ 0)
         × (quickNumbers (map (storedGuard (formatAt a)) (historyOf a stripe calls)) ≡ 1 ∷ 0 ∷ 1 ∷ guard (formatAt a) (together a (historyOf a stripe calls)) ∷ [])
-    quick-differs-beside = differs-within a stripe (historyOf a stripe calls) sound (whole-history sound calls bytes accepted) none-bad all-checked
+    quick-differs-beside = differs-within a stripe (historyOf a stripe calls) sound (whole-history sound calls bytes accepted) plain none-bad all-checked
 
   -- ---- at a finish among the calls, from the answers that they got
 
@@ -123,10 +123,10 @@ module _ (a : Array) (stripe : ℕ) where
     answers-cut-anywhere =
         record {
           answered = right;
-          quick-fits = λ bytes before f.
+          quick-fits = λ plain bytes before f.
               let d = done-with before f in
-              quick-fits-beside sound before (bytes-before before (finish ∷ f .later) (rw (f .there) at bytes)) (d .0) (λ e. f .not-bad (sym (d .1) ∙ e)) (λ e. f .not-unchecked (sym (d .1) ∙ e));
-          quick-differs = λ bytes before f.
+              quick-fits-beside plain sound before (bytes-before before (finish ∷ f .later) (rw (f .there) at bytes)) (d .0) (λ e. f .not-bad (sym (d .1) ∙ e)) (λ e. f .not-unchecked (sym (d .1) ∙ e));
+          quick-differs = λ plain bytes before f.
               let d = done-with before f in
-              quick-differs-beside sound before (bytes-before before (finish ∷ f .later) (rw (f .there) at bytes)) (d .0) (λ e. f .not-bad (sym (d .1) ∙ e)) (λ e. f .not-unchecked (sym (d .1) ∙ e));
+              quick-differs-beside plain sound before (bytes-before before (finish ∷ f .later) (rw (f .there) at bytes)) (d .0) (λ e. f .not-bad (sym (d .1) ∙ e)) (λ e. f .not-unchecked (sym (d .1) ∙ e));
         }

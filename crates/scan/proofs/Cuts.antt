@@ -8,10 +8,10 @@ use native.Mathlib.Omega.{arith}
 use lib.ListN.{length, getD, take, drop, set, length-take, length-drop, take-append-drop}
 use lib.Seq.{take-all, sets}
 use Rattle.xor.specs.Xors.{xors}
-use Rattle.format.specs.Formats.{Format}
+use Rattle.format.specs.Formats.{Format, valueIn, waitingIn, registerFrom}
 use Rattle.tag.specs.Blocks.{formatAt}
 use Rattle.scan.specs.declared.Scan.{Scan}
-use Rattle.scan.specs.Scans.{dataOfPiece, tagOfPiece, positions, registers, tags, advanced}
+use Rattle.scan.specs.Scans.{dataOfPiece, tagOfPiece, positions, tags, registerAt, advanced}
 use Rattle.scan.specs.Steps.{combinedFrom, tagsFrom}
 
 take-min : (k : ℕ) (l : List ℕ) → take (min k (length l)) l ≡ take k l
@@ -34,15 +34,9 @@ xors-part (x ∷ w) [] (suc k) h = ap (λ (l : List ℕ). x ∷ l) (take-append-
 xors-part (x ∷ w) (y ∷ b) zero h = absurd (not-suc-le-zero h)
 xors-part (x ∷ w) (y ∷ b) (suc k) h = rw (xors-part w b k (le-of-suc-le-suc h))
 
--- a state with other positions, registers and tag bytes
-abbrev pub holding : Scan → List ℕ → List ℕ → List ℕ → Scan
-holding s at register tag = record { array = s .array; stripe = s .stripe; at = at; register = register; tag = tag }
-
--- within a list the default does not matter
-getD-any : (l : List ℕ) (i d e : ℕ) → i < length l → getD l i d ≡ getD l i e
-getD-any [] i d e h = absurd (not-suc-le-zero h)
-getD-any (x ∷ l) zero d e h = refl
-getD-any (x ∷ l) (suc i) d e h = getD-any l i d e (le-of-suc-le-suc h)
+-- a state with other positions, values, bytes that wait and tag bytes
+abbrev pub holding : Scan → List ℕ → List ℕ → List ℕ → List ℕ → Scan
+holding s at register waiting tag = record { array = s .array; stripe = s .stripe; at = at; register = register; waiting = waiting; tag = tag }
 
 module _ (F : Format) (p : ℕ) (bytes : List ℕ) (room d : ℕ) (left : room ≡ F .dataLength - p) (cut : d ≡ min room (length bytes)) where
   pub data-part : take d bytes ≡ dataOfPiece F p bytes
@@ -70,6 +64,24 @@ module _ (F : Format) (p : ℕ) (bytes : List ℕ) (room d : ℕ) (left : room �
       rw (e, size) (xors-part (drop from w) (take d bytes) d short) in
       ap₂ (λ (a b : List ℕ). a ++ b) front (added ∙ ap₂ xors back data-part)
 
+-- a whole block is cut where its data end
+module _ (F : Format) (bytes : List ℕ) (d : ℕ) (size : d ≡ F .dataLength) where
+  pub whole-data : take (d - 0) bytes ≡ dataOfPiece F 0 bytes
+  unfolding dataOfPiece
+  whole-data = ap (λ (k : ℕ). take (k - 0) bytes) size
+
+  pub whole-work : (w y : List ℕ) → y ≡ xors w (take (d - 0) bytes) → y ≡ combinedFrom F 0 w bytes
+  whole-work w y e = e ∙ ap (xors w) whole-data
+
+  pub whole-tags : (t tag : List ℕ) (m at b : ℕ) → length bytes ≡ F .blockLength → b ≡ F .blockLength → at ≡ F .tagLength * m
+      → tag ≡ sets t at (take (b - d) (drop d bytes)) → tag ≡ tagsFrom F 0 t m bytes
+  unfolding tagOfPiece
+  whole-tags t tag m at b long block here e =
+      let from : d ≡ F .dataLength - 0 = omega (arith, size) in
+      let all : take (b - d) (drop d bytes) ≡ drop (F .dataLength - 0) bytes =
+      take-all (b - d) (drop d bytes) (simp length-drop (omega (arith, long, block))) ∙ ap (λ (k : ℕ). drop k bytes) from in
+      e ∙ ap₂ (sets t) (here ∙ omega arith) all
+
 -- what a piece passed on leaves: a register, the work buffer and the tag bytes
 abbrev pub PassedOn : Format → ℕ → ℕ → List ℕ → List ℕ → List ℕ → List ℕ → ℕ → ℕ → List ℕ → Type 0
 PassedOn F m after work work′ tag tag′ p register bytes =
@@ -84,15 +96,17 @@ passed-alike F m after work work′ tag tag′ p q register first bytes part her
     (subst (λ (l : List ℕ). PassedOn F m after work work′ tag tag′ q first l) all e))
 
 -- a state whose register and tag bytes are those after the piece is the state advanced
-pub advanced-by : (s : Scan) (m : ℕ) (bytes : List ℕ) → length (s .register) ≡ 16 → m < 16 → (at registers : List ℕ) (register : ℕ) (tag : List ℕ)
-    → register ≡ formatAt (s .array) .advance (getD (s .at) m 0) (getD (s .register) m 0) (dataOfPiece (formatAt (s .array)) (getD (s .at) m 0) bytes)
-    → at ≡ set (s .at) m (getD (s .at) m 0 + length bytes) → registers ≡ set (s .register) m register
-    → tag ≡ tagsFrom (formatAt (s .array)) (getD (s .at) m 0) (s .tag) m bytes → holding s at registers tag ≡ advanced s m bytes
-unfolding advanced positions registers tags
-advanced-by s m bytes long few at held register tag r a h t =
+pub advanced-by : (s : Scan) (m : ℕ) (bytes : List ℕ) (at values waiting : List ℕ) (before after v w : ℕ) (tag : List ℕ)
+    → before ≡ registerFrom (formatAt (s .array)) (getD (s .register) m 0) (getD (s .waiting) m 0)
+    → after ≡ formatAt (s .array) .advance (getD (s .at) m 0) before (dataOfPiece (formatAt (s .array)) (getD (s .at) m 0) bytes)
+    → v ≡ valueIn (formatAt (s .array)) after → w ≡ waitingIn (formatAt (s .array)) after
+    → at ≡ set (s .at) m (getD (s .at) m 0 + length bytes) → values ≡ set (s .register) m v → waiting ≡ set (s .waiting) m w
+    → tag ≡ tagsFrom (formatAt (s .array)) (getD (s .at) m 0) (s .tag) m bytes → holding s at values waiting tag ≡ advanced s m bytes
+unfolding advanced positions tags
+advanced-by s m bytes at values waiting before after v w tag b r ev ew a h k t =
     let F = formatAt (s .array) in
     let p = getD (s .at) m 0 in
-    let same : getD (s .register) m 0 ≡ getD (s .register) m (F .start) = getD-any (s .register) m 0 (F .start) (omega arith) in
-    let stepped : held ≡ set (s .register) m (F .advance p (getD (s .register) m (F .start)) (dataOfPiece F p bytes)) =
-    h ∙ ap (set (s .register) m) (r ∙ ap (λ (k : ℕ). F .advance p k (dataOfPiece F p bytes)) same) in
-    ap₂ (λ (x y : List ℕ). holding s x y tag) a stepped ∙ ap (holding s (set (s .at) m (p + length bytes)) (set (s .register) m (F .advance p (getD (s .register) m (F .start)) (dataOfPiece F p bytes)))) t
+    let stepped : after ≡ F .advance p (registerAt F s m) (dataOfPiece F p bytes) = r ∙ ap (λ (x : ℕ). F .advance p x (dataOfPiece F p bytes)) b in
+    let values-are = h ∙ ap (set (s .register) m) (ev ∙ ap (valueIn F) stepped) in
+    let waiting-are = k ∙ ap (set (s .waiting) m) (ew ∙ ap (waitingIn F) stepped) in
+    ap₂ (λ (x y : List ℕ). holding s x y waiting tag) a values-are ∙ ap₂ (λ (x y : List ℕ). holding s (set (s .at) m (p + length bytes)) (set (s .register) m (valueIn F (F .advance p (registerAt F s m) (dataOfPiece F p bytes)))) x y) waiting-are t

@@ -5,7 +5,11 @@ use mathlib.Core.List.{List, [], _∷_, _++_}
 use Prim.Native.Nat.{ℕ}
 use lib.ListN.{replicate}
 use Rattle.xor.specs.Xors.{xors}
+use Rattle.crc.specs.Crc.{bits, bitsOf, bitStep, feed}
 use Rattle.crc.specs.Guard.{run}
+use Rattle.checksum.specs.Checksum.{taken, word, rotated, wrapped}
+use Rattle.checksum.specs.Machine.{byteStep, advance}
+use Rattle.format.specs.Packed.{packed, unpacked, packedAdvance, mayWait}
 use Rattle.format.specs.Methods.{formatOf}
 use Rattle.layout.specs.Arrays.{arrayOf, arrayRefusal, stripeRefusal}
 use Rattle.layout.specs.declared.Array.{Array}
@@ -14,7 +18,6 @@ use Rattle.scan.specs.Scans.{
   dataOfPiece,
   tagOfPiece,
   positions,
-  registers,
   tags,
   buffer,
   startRefusal,
@@ -31,7 +34,7 @@ use Rattle.scan.specs.Scans.{
 
 -- two stripes of three members
 abbrev three : Array
-three = arrayOf 3 2 7
+three = arrayOf 3 2 7 1
 
 abbrev zeros : List ℕ
 zeros = 0 ∷ 0 ∷ 0 ∷ 0 ∷ 0 ∷ 0 ∷ 0 ∷ 0 ∷ 0 ∷ 0 ∷ 0 ∷ 0 ∷ 0 ∷ 0 ∷ 0 ∷ 0 ∷ []
@@ -44,6 +47,7 @@ standing first second third fourth =
       stripe = 1;
       at = first ∷ second ∷ third ∷ fourth ∷ 0 ∷ 0 ∷ 0 ∷ 0 ∷ 0 ∷ 0 ∷ 0 ∷ 0 ∷ 0 ∷ 0 ∷ 0 ∷ 0 ∷ [];
       register = zeros;
+      waiting = zeros;
       tag = replicate 128 0;
     }
 
@@ -51,7 +55,7 @@ standing first second third fourth =
 
 -- a refused start gives zeros throughout and changes no byte: stripe 2 of two; a buffer of another length
 abbrev nothing : Scan
-nothing = record { array = arrayOf 0 0 0; stripe = 0; at = zeros; register = zeros; tag = replicate 128 0 }
+nothing = record { array = arrayOf 0 0 0 0; stripe = 0; at = zeros; register = zeros; waiting = zeros; tag = replicate 128 0 }
 
 pub refused-start : (startState three 2 512 ≡ nothing) × (startState three 1 2 ≡ nothing) × (startWork three 1 (8 ∷ 9 ∷ []) ≡ 8 ∷ 9 ∷ [])
 unfolding formatOf startState startWork startRefusal emptyScan stripeRefusal arrayRefusal
@@ -67,6 +71,24 @@ start-order = (refl, refl, refl, refl)
 pub fit-positions : (fit (standing 520 520 520 521) ≡ true) × (fit (standing 0 0 521 0) ≡ false) × (fit (standing 521 0 0 0) ≡ false)
 unfolding formatOf fit stripeRefusal arrayRefusal
 fit-positions = (refl, refl, refl)
+
+-- a state by method 2: member 1 stands at a position, with a byte that waits
+abbrev pairing : ℕ → ℕ → ℕ → Scan
+pairing position register byte =
+    record {
+      array = arrayOf 3 2 7 2;
+      stripe = 1;
+      at = 3 ∷ position ∷ 0 ∷ 4 ∷ 0 ∷ 0 ∷ 0 ∷ 0 ∷ 0 ∷ 0 ∷ 0 ∷ 0 ∷ 0 ∷ 0 ∷ 0 ∷ 0 ∷ [];
+      register = 5 ∷ register ∷ 6 ∷ 7 ∷ 0 ∷ 0 ∷ 0 ∷ 0 ∷ 0 ∷ 0 ∷ 0 ∷ 0 ∷ 0 ∷ 0 ∷ 0 ∷ 0 ∷ [];
+      waiting = 8 ∷ byte ∷ 0 ∷ 9 ∷ 0 ∷ 0 ∷ 0 ∷ 0 ∷ 0 ∷ 0 ∷ 0 ∷ 0 ∷ 0 ∷ 0 ∷ 0 ∷ 0 ∷ [];
+      tag = replicate 128 0;
+    }
+
+-- a byte waits after an odd number of bytes of data, and nowhere else; what stands past the members does not matter
+pub fit-waiting : (fit (pairing 1 5 0x56) ≡ true) × (fit (pairing 511 5 1) ≡ true) × (fit (pairing 2 5 0) ≡ true)
+    × (fit (pairing 0 5 1) ≡ false) × (fit (pairing 2 5 1) ≡ false) × (fit (pairing 513 5 1) ≡ false)
+unfolding formatOf fit stripeRefusal arrayRefusal mayWait
+fit-waiting = (refl, refl, refl, refl, refl, refl)
 
 -- ---- piece: 4 goes before 5, 5 before 6 and 7, 6 before 7
 
@@ -95,15 +117,23 @@ foundState position register byte =
       stripe = 1;
       at = 3 ∷ position ∷ 0 ∷ 4 ∷ 0 ∷ 0 ∷ 0 ∷ 0 ∷ 0 ∷ 0 ∷ 0 ∷ 0 ∷ 0 ∷ 0 ∷ 0 ∷ 0 ∷ [];
       register = 5 ∷ register ∷ 6 ∷ 7 ∷ 0 ∷ 0 ∷ 0 ∷ 0 ∷ 0 ∷ 0 ∷ 0 ∷ 0 ∷ 0 ∷ 0 ∷ 0 ∷ 0 ∷ [];
+      waiting = zeros;
       tag = replicate 8 10 ++ (byte ∷ replicate 119 11);
     }
 
-pub piece-goes-on : (pieceState (foundState 0 0x1234 11) 1 (1 ∷ []) 512 ≡ foundState 1 (run 0x1234 (1 ∷ [])) 11)
+pub piece-goes-on : (pieceState (foundState 0 0x1234 11) 1 (1 ∷ []) 512 ≡ foundState 1 0x77a3 11)
     × (pieceWork (foundState 0 0x1234 11) 1 (1 ∷ []) (9 ∷ replicate 511 5) ≡ 8 ∷ replicate 511 5)
-    × (pieceState (foundState 511 0x1234 11) 1 (1 ∷ 12 ∷ []) 512 ≡ foundState 513 (run 0x1234 (1 ∷ [])) 12)
+    × (pieceState (foundState 511 0x1234 11) 1 (1 ∷ 12 ∷ []) 512 ≡ foundState 513 0x77a3 12)
     × (pieceWork (foundState 511 0x1234 11) 1 (1 ∷ 12 ∷ []) (replicate 511 5 ++ (9 ∷ [])) ≡ replicate 511 5 ++ (8 ∷ []))
-unfolding formatOf pieceState pieceWork pieceRefusal fit stripeRefusal arrayRefusal advanced positions registers tags buffer dataOfPiece tagOfPiece xors
+unfolding formatOf pieceState pieceWork pieceRefusal fit stripeRefusal arrayRefusal advanced positions tags buffer dataOfPiece tagOfPiece xors run feed bitsOf bits bitStep
 piece-goes-on = (refl, refl, refl, refl)
+
+-- by method 2 a first byte waits; its pair, the lower byte of the word, takes it in: 1234h rotated is 2468h, and 5601h more
+pub pairs-up : (pieceState (pairing 0 0x1234 0) 1 (0x56 ∷ []) 512 ≡ pairing 1 0x1234 0x56)
+    × (pieceState (pairing 1 0x1234 0x56) 1 (1 ∷ []) 512 ≡ pairing 2 0x7A69 0)
+    × (pieceState (pairing 1 0x1234 0x56) 1 (1 ∷ 0x78 ∷ []) 512 ≡ pairing 3 0x7A69 0x78)
+unfolding formatOf pieceState pieceRefusal fit stripeRefusal arrayRefusal mayWait advanced positions tags dataOfPiece tagOfPiece packedAdvance packed unpacked advance byteStep taken word rotated wrapped
+pairs-up = (refl, refl, refl)
 
 -- ---- finish: 4 goes before 6, 6 before 8; what stands past the members does not matter
 

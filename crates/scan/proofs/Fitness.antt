@@ -1,7 +1,7 @@
 -- What a call that is not refused may count on, from its refusal number; and the loop over the first positions.
 -- Assumes nothing.
 use mathlib.Core.Path.{_≡_, refl, sym, ap, _∙_}
-use mathlib.Core.Bool.{Bool, true, false, not, cond, _&&_}
+use mathlib.Core.Bool.{Bool, true, false, not, cond, _&&_, _||_}
 use mathlib.Core.List.{List, [], _∷_, map}
 use mathlib.Core.Logic.{_≢_}
 use Prim.Native.Nat.{ℕ, zero, suc, _+_, _≤_, _<_, zero-le, suc-le-suc}
@@ -9,7 +9,7 @@ use native.Mathlib.Nat.{le-of-suc-le-suc, not-suc-le-zero, zero-lt-suc}
 use native.Mathlib.Numerals.{add-one}
 use native.Mathlib.Decide.{decLt}
 use native.Mathlib.Omega.{arith}
-use borrow.Author.Tests.{leb-true, eqb-true, ne-eqb}
+use borrow.Author.Tests.{leb-true, le-leb, eqb-true, ne-eqb}
 use lib.Dec.{leb, eqb}
 use lib.ListN.{length, getD, take, drop, replicate, length-take, drop-of-length-le, List·getD-eq-default}
 use lib.Seq.{drop-cons, getD-take}
@@ -18,7 +18,9 @@ use Rattle.layout.specs.Arrays.{noArray, stripeRefusal}
 use Rattle.layout.specs.declared.Array.{Array}
 use Rattle.layout.proofs.Answers.{refuse-none}
 use Rattle.layout.proofs.Ranges.{stripe-sound}
-use Rattle.stripe.specs.Tables.{all}
+use Rattle.stripe.specs.Tables.{table, all}
+use Rattle.stripe.proofs.Tables.{length-table, getD-table}
+use Rattle.stripe.proofs.Others.{all-at, at-all}
 use Rattle.tag.specs.Blocks.{formatAt}
 use Rattle.scan.specs.declared.Scan.{Scan}
 use Rattle.scan.specs.Scans.{
@@ -26,6 +28,7 @@ use Rattle.scan.specs.Scans.{
   emptyScan,
   startState,
   startWork,
+  waitingFit,
   fit,
   pieceRefusal,
   advanced,
@@ -35,7 +38,8 @@ use Rattle.scan.specs.Scans.{
   finishRefusal,
 }
 use Rattle.scan.specs.Rows.{FitState}
-use Rattle.scan.specs.Steps.{nonePast, allWhole}
+use Rattle.scan.specs.Steps.{memberFit, membersFit, nonePast, allWhole}
+use Rattle.format.specs.Formats.{Format}
 
 -- ---- flags over the first n elements of a list
 
@@ -67,6 +71,21 @@ first-all f l zero h = refl
 first-all f [] (suc n) h = refl
 first-all f (x ∷ l) (suc n) h =
     rw (h 0 (zero-lt-suc n) (zero-lt-suc (length l))) (first-all f l n (λ i a b. h (suc i) (suc-le-suc a) (suc-le-suc b)))
+
+-- the same of a table of flags
+module _ (n : ℕ) (f : ℕ → Bool) where
+  pub table-flag : all (table n f) ≡ true → (i : ℕ) → i < n → f i ≡ true
+  table-flag e i h = sym (getD-table n f true i h) ∙ all-at (table n f) e i
+
+  pub flag-table : ((i : ℕ) → i < n → f i ≡ true) → all (table n f) ≡ true
+  flag-table h = at-all (table n f) (λ i l. let here : i < n = rw length-table at l in getD-table n f true i here ∙ h i here)
+
+  pub table-unflagged : (i : ℕ) → i < n → f i ≡ false → all (table n f) ≡ false
+  table-unflagged i h e = go (all (table n f)) refl
+    where
+      go : (x : Bool) → all (table n f) ≡ x → x ≡ false
+      go true t = sym (table-flag t i h) ∙ e
+      go false t = refl
 
 -- ---- a choice by a refusal number
 
@@ -105,31 +124,94 @@ module _ (a : Array) (stripe : ℕ) (w : List ℕ) where
     sym (when-refused (startRefusal a stripe (length w)) (replicate (formatAt a .dataLength) 0) w some),
   )
 
+-- ---- the members one by one
+
+module _ (F : Format) (n : ℕ) (at waiting : List ℕ) where
+  abbrev alone : ℕ → Bool
+  alone m = eqb (getD waiting m 0) 0 || F .waits (getD at m 0)
+
+  abbrev stands : ℕ → Bool
+  stands m = memberFit F (getD at m 0) (getD waiting m 0)
+
+  -- by their positions, and by what waits, together
+  pub members-by-two : n ≤ length at → membersFit F n at waiting ≡ (nonePast F n at && waitingFit F n at waiting)
+  members-by-two inside = alike (membersFit F n at waiting) (nonePast F n at && waitingFit F n at waiting) there back
+    where
+      alike : (x y : Bool) → (x ≡ true → y ≡ true) → (y ≡ true → x ≡ true) → x ≡ y
+      alike true y f g = sym (f refl)
+      alike false true f g = g refl
+      alike false false f g = refl
+
+      joined : (x y : Bool) → x ≡ true → y ≡ true → (x && y) ≡ true
+      joined x y e f = rw (e, f)
+
+      there : membersFit F n at waiting ≡ true → (nonePast F n at && waitingFit F n at waiting) ≡ true
+      there e =
+          let each : (i : ℕ) → i < n → (leb (getD at i 0) (F .blockLength) ≡ true) × (alone i ≡ true) =
+          λ i h. both (leb (getD at i 0) (F .blockLength)) (alone i) (table-flag n stands e i h) in
+          joined (nonePast F n at) (waitingFit F n at waiting) (first-all (λ p. leb p (F .blockLength)) at n (λ i h k. each i h .0)) (flag-table n alone (λ i h. each i h .1))
+
+      back : (nonePast F n at && waitingFit F n at waiting) ≡ true → membersFit F n at waiting ≡ true
+      back e =
+          let h = both (nonePast F n at) (waitingFit F n at waiting) e in
+          flag-table n stands
+          (λ i k. joined (leb (getD at i 0) (F .blockLength)) (alone i) (all-first (λ p. leb p (F .blockLength)) at n (h .0) i k (omega arith)) (table-flag n alone (h .1) i k))
+
+  -- at once, where none of all sixteen is too far and none waits
+  pub members-at-once : ((i : ℕ) → i < n → getD at i 0 ≤ F .blockLength) → ((i : ℕ) → i < n → getD waiting i 0 ≡ 0) → membersFit F n at waiting ≡ true
+  members-at-once near none =
+      flag-table n stands (λ i h. rw (le-leb (getD at i 0) (F .blockLength) (near i h), none i h))
+
 -- ---- a fit state
+
+-- it is fit by those of its fields that tell
+pub fit-alike : (s t : Scan) → s .array ≡ t .array → s .stripe ≡ t .stripe → s .at ≡ t .at → s .waiting ≡ t .waiting → fit t ≡ fit s
+unfolding fit
+fit-alike s t e f g h = rw (e, f, g, h)
 
 module _ (s : Scan) where
   pub numbers-unfit : stripeRefusal (s .array) (s .stripe) ≢ 0 → fit s ≡ false
   unfolding fit
   numbers-unfit h = rw (ne-eqb (stripeRefusal (s .array) (s .stripe)) 0 h)
 
-  pub numbers-fit : stripeRefusal (s .array) (s .stripe) ≡ 0 → fit s ≡ nonePast (formatAt (s .array)) (s .array .members) (s .at)
+  numbers-two : stripeRefusal (s .array) (s .stripe) ≡ 0
+      → fit s ≡ (nonePast (formatAt (s .array)) (s .array .members) (s .at) && waitingFit (formatAt (s .array)) (s .array .members) (s .at) (s .waiting))
   unfolding fit
-  numbers-fit e = rw e
+  numbers-two e = rw e
+
+  pub numbers-fit : stripeRefusal (s .array) (s .stripe) ≡ 0 → s .array .members ≤ length (s .at)
+      → membersFit (formatAt (s .array)) (s .array .members) (s .at) (s .waiting) ≡ fit s
+  numbers-fit e inside = members-by-two (formatAt (s .array)) (s .array .members) (s .at) (s .waiting) inside ∙ sym (numbers-two e)
 
   pub fit-state : fit s ≡ true → FitState s
   unfolding fit
   fit-state e =
-      let h = both (eqb (stripeRefusal (s .array) (s .stripe)) 0) (nonePast (formatAt (s .array)) (s .array .members) (s .at)) e in
+      let F = formatAt (s .array) in
+      let n = s .array .members in
+      let h = three (eqb (stripeRefusal (s .array) (s .stripe)) 0) (nonePast F n (s .at)) (waitingFit F n (s .at) (s .waiting)) e in
       let sound = eqb-true (stripeRefusal (s .array) (s .stripe)) 0 (h .0) in
       record {
         numbers = sound;
         few = stripe-sound (s .array) (s .stripe) sound .array .many;
         near = λ i k. near i k (decLt i (length (s .at))) (h .1);
+        alone = λ i k w. alone i w (table-flag n (λ m. eqb (getD (s .waiting) m 0) 0 || F .waits (getD (s .at) m 0)) (h .2) i k);
       }
     where
+      three : (x y z : Bool) → (x && y && z) ≡ true → (x ≡ true) × (y ≡ true) × (z ≡ true)
+      three true true z e = (refl, refl, e)
+      three true false z e = (refl, e, (cc))
+      three false y z e = (e, (cc), (cc))
+
       near : (i : ℕ) → i < s .array .members → Dec (i < length (s .at)) → nonePast (formatAt (s .array)) (s .array .members) (s .at) ≡ true → getD (s .at) i 0 ≤ (formatAt (s .array) .blockLength)
       near i k (yes l) e = leb-true (getD (s .at) i 0) (formatAt (s .array) .blockLength) (all-first (λ p. leb p (formatAt (s .array) .blockLength)) (s .at) (s .array .members) e i k l)
       near i k (no l) e = rw (List·getD-eq-default (s .at) 0 {n = i} (omega arith)) zero-le
+
+      or-first : (x y : Bool) → y ≡ false → (x || y) ≡ true → x ≡ true
+      or-first true y p q = refl
+      or-first false y p q = sym p ∙ q ∙ sym (let z : true ≡ false = sym q ∙ p in cc)
+
+      alone : (i : ℕ) → formatAt (s .array) .waits (getD (s .at) i 0) ≡ false → (eqb (getD (s .waiting) i 0) 0 || formatAt (s .array) .waits (getD (s .at) i 0)) ≡ true → getD (s .waiting) i 0 ≡ 0
+      alone i w e = eqb-true (getD (s .waiting) i 0) 0 (or-first (eqb (getD (s .waiting) i 0) 0) (formatAt (s .array) .waits (getD (s .at) i 0)) w e)
 
 -- ---- piece
 

@@ -1,81 +1,133 @@
 -- A finish by its steps: how each member stands by its register and tag bytes, and the verdict from what the loop over them found.
 -- Assumes nothing.
 use mathlib.Core.Path.{_≡_, refl, sym, ap, ap₂, _∙_}
-use mathlib.Core.List.{List, [], _∷_, map}
+use mathlib.Core.List.{List, [], _∷_, _++_, map}
 use mathlib.Core.Logic.{_≢_}
 use Prim.Native.Nat.{ℕ, zero, suc, _+_, _*_, _≤_, _<_}
 use native.Mathlib.Omega.{arith}
+use lib.Bits.{bitXor}
 use lib.ListN.{length, getD, take, drop, length-take}
 use lib.Seq.{getD-take}
-use Rattle.format.specs.Formats.{mostTags}
+use Rattle.format.specs.Formats.{Format, mostTags}
 use Rattle.layout.specs.Answers.{answer}
 use Rattle.layout.specs.Places.{ownerRefusal}
 use Rattle.format.proofs.Sizes.{times-next}
 use Rattle.layout.proofs.Ranges.{place-sound}
 use Rattle.layout.specs.declared.Array.{Array}
-use Rattle.tag.specs.Tags.{found, tagWithin, due, dueAt, standing}
+use Rattle.tag.specs.Tags.{found, tagWithin, guardDue, dueAt, expected, standing}
 use Rattle.tag.proofs.Within.{tag-inside}
 use Rattle.scan.proofs.Joins.{getD-map-in}
 use Rattle.tag.specs.declared.Fields.{Fields}
-use Rattle.tag.proofs.Expected.{due-somewhere}
-use Rattle.verdict.specs.Verdicts.{nonzero, saysClean, judged}
+use Rattle.tag.proofs.Owed.{due-somewhere}
+use Rattle.verdict.specs.Verdicts.{nonzero, saysClean, judged, combinedGuards}
+use Rattle.verdict.proofs.Quick.{guards-turn, guards-end}
 use Rattle.stripe.specs.Tables.{table, span}
 use Rattle.tag.specs.Blocks.{formatAt}
 use Rattle.stripe.specs.Formats.{Summary}
-use Rattle.stripe.specs.Verdicts.{standingMembers, tornPlaces, verdict}
-use Rattle.stripe.proofs.Tables.{getD-table, table-ext}
+use Rattle.stripe.specs.Stripes.{leftOf}
+use Rattle.stripe.specs.Verdicts.{standingMembers, guardsLeft, tornPlaces, verdict}
+use Rattle.stripe.proofs.Tables.{length-table, getD-table, table-ext, map-table}
 use Rattle.scan.specs.declared.Scan.{Scan}
-use Rattle.scan.specs.Scans.{heldSummary, finishRefusal, finishNumbers}
-use Rattle.scan.specs.Steps.{heldStanding, standingsHeld}
+use Rattle.scan.specs.Scans.{heldSummary, registerAt, registersOf, finishRefusal, finishNumbers}
+use Rattle.scan.specs.Steps.{heldStanding, standingsHeld, heldGuards}
 use Rattle.scan.proofs.Refusals.{refused-verdict}
+
+-- the tag of a member among those held
+held-tag : (F : Format) (m : ℕ) (tags : List ℕ) → m < 16 → length tags ≡ mostTags → tagWithin F tags (F .tagLength * m) ≡ span (F .tagLength * m) (F .tagLength) tags
+unfolding span
+held-tag F m tags few long = tag-inside F tags (F .tagLength * m) (omega (arith, long, times-next (F .tagLength) m 16 few, F .tag-quarters, F .quarter-most))
+
+-- the guard in it
+pub guard-by-steps : (F : Format) (m at : ℕ) (tags : List ℕ) (f : Fields) → m < 16 → length tags ≡ mostTags → at ≡ F .tagLength * m → f ≡ found F (tagWithin F tags at)
+    → f .guard ≡ found F (span (F .tagLength * m) (F .tagLength) tags) .guard
+guard-by-steps F m at tags f few long here r =
+    ap (λ (x : Fields). x .guard) (r ∙ ap (found F) (ap (tagWithin F tags) here ∙ held-tag F m tags few long))
+
+-- the guards in the tags of the members, combined one after another
+module _ (F : Format) (n : ℕ) (tags : List ℕ) (guards : ℕ) where
+  pub guard-taken : (guard m : ℕ) → m < n → guard ≡ found F (span (F .tagLength * m) (F .tagLength) tags) .guard
+      → bitXor (bitXor guards guard) (combinedGuards (drop (m + 1) (heldGuards F n tags))) ≡ bitXor guards (combinedGuards (drop m (heldGuards F n tags)))
+  unfolding heldGuards
+  guard-taken guard m h e =
+      let guardAt : ℕ → ℕ = λ m. found F (span (F .tagLength * m) (F .tagLength) tags) .guard in
+      ap (λ (g : ℕ). bitXor (bitXor guards g) (combinedGuards (drop (m + 1) (table n guardAt)))) (e ∙ sym (getD-table n guardAt 0 m h))
+      ∙ guards-turn guards (table n guardAt) m (rw length-table h)
+
+  pub guards-taken : (m : ℕ) → n ≤ m → guards ≡ bitXor guards (combinedGuards (drop m (heldGuards F n tags)))
+  unfolding heldGuards
+  guards-taken m h =
+      let guardAt : ℕ → ℕ = λ m. found F (span (F .tagLength * m) (F .tagLength) tags) .guard in
+      guards-end guards (table n guardAt) m (rw length-table h)
 
 -- one member, by the steps of its check
 pub held-by-steps : (a : Array) (stripe m at g register : ℕ) (tags : List ℕ) → ownerRefusal a stripe m ≡ 0 → length tags ≡ mostTags
-    → (expected f : Fields) (how : ℕ) → at ≡ formatAt a .tagLength * m → g ≡ formatAt a .guardOf register
-    → expected ≡ dueAt a stripe m g → f ≡ found (formatAt a) (tagWithin (formatAt a) tags at)
-    → how ≡ standing (formatAt a) f expected → how ≡ heldStanding a stripe m register tags
-unfolding heldStanding span
-held-by-steps a stripe m at g register tags place long expected f how here eg e r q =
+    → (f e : Fields) (how : ℕ) → at ≡ formatAt a .tagLength * m → g ≡ formatAt a .guardOf register
+    → f ≡ found (formatAt a) (tagWithin (formatAt a) tags at) → e ≡ dueAt a stripe m (guardDue a stripe m (f .guard) g)
+    → how ≡ standing (formatAt a) f e → how ≡ heldStanding a stripe m register tags
+unfolding heldStanding
+held-by-steps a stripe m at g register tags place long f e how here eg r due-there q =
     let F = formatAt a in
     let p = place-sound a stripe m place in
     let few : m < 16 = omega (arith, p .here, p .stripe .array .many) in
-    let tag : tagWithin F tags at ≡ take (F .tagLength) (drop (F .tagLength * m) tags) =
-    ap (tagWithin F tags) here ∙ tag-inside F tags (F .tagLength * m) (omega (arith, long, times-next (F .tagLength) m 16 few, F .tag-quarters, F .quarter-most)) in
-    q ∙ ap₂ (standing F) (r ∙ ap (found F) tag) (e ∙ due-somewhere a stripe m g place ∙ ap (due a stripe m) eg)
+    let is : f ≡ found F (span (F .tagLength * m) (F .tagLength) tags) = r ∙ ap (found F) (ap (tagWithin F tags) here ∙ held-tag F m tags few long) in
+    q
+    ∙ ap₂ (standing F) is
+    (due-there ∙ due-somewhere a stripe m (guardDue a stripe m (f .guard) g) place ∙ ap₂ (λ (x : Fields) (y : ℕ). expected a stripe m x y) is eg)
+
+-- which places are torn by what is held
+torn-held : (F : Format) (n : ℕ) (register tag w : List ℕ) → tornPlaces F (heldSummary F n register tag w) ≡ nonzero (w ++ (guardsLeft F (heldSummary F n register tag w) ∷ []))
+unfolding tornPlaces heldSummary
+torn-held F n register tag w = refl
 
 module _ (s : Scan) where
   abbrev heldAs : ℕ → ℕ
-  heldAs m = heldStanding (s .array) (s .stripe) m (getD (s .register) m 0) (s .tag)
+  heldAs m = heldStanding (s .array) (s .stripe) m (registerAt (formatAt (s .array)) s m) (s .tag)
 
   -- the loop over the members, at its end
   pub held-all : (l : List ℕ) (m : ℕ) → m ≡ s .array .members → take m l ≡ table m heldAs → take (s .array .members) l ≡ standingsHeld s
   unfolding standingsHeld
   held-all l m h e = ap (λ (n : ℕ). take n l) (sym h) ∙ e ∙ ap (λ (n : ℕ). table n heldAs) h
 
-  -- the summary of what is held says the same of the members
-  standing-members-held : (w : List ℕ) → s .array .members ≤ length (s .register)
-      → standingMembers (s .array) (s .stripe) (heldSummary (formatAt (s .array)) (s .array .members) (s .register) (s .tag) w) ≡ standingsHeld s
-  unfolding standingMembers standingsHeld heldStanding heldSummary
-  standing-members-held w held =
+  -- what is held of the stripe, as its summary
+  abbrev summary : List ℕ → Summary
+  summary w = heldSummary (formatAt (s .array)) (s .array .members) (registersOf (formatAt (s .array)) s) (s .tag) w
+
+  -- it says the same of the members, and of what is left of their guards
+  standing-members-held : (w : List ℕ) → s .array .members ≤ 16 → standingMembers (s .array) (s .stripe) (summary w) ≡ standingsHeld s
+  unfolding standingMembers standingsHeld heldStanding heldSummary registersOf
+  standing-members-held w few =
       let F = formatAt (s .array) in
       let n = s .array .members in
       table-ext n _ _
       (λ m h.
-      ap₂ (λ (t : List ℕ) (g : ℕ). standing F (found F t) (due (s .array) (s .stripe) m g))
+      ap₂ (λ (t : List ℕ) (g : ℕ). standing F (found F t) (expected (s .array) (s .stripe) m (found F t) g))
       (getD-table n (λ m. span (F .tagLength * m) (F .tagLength) (s .tag)) [] m h)
-      (getD-map-in (F .guardOf) (take n (s .register)) m 0 0 (rw length-take (omega arith)) ∙ ap (F .guardOf) (getD-take n (s .register) m 0 h)))
+      (getD-map-in (F .guardOf) (take n (table 16 (registerAt F s))) m 0 0 (rw length-take (omega (arith, length-table 16 (registerAt F s))))
+      ∙ ap (F .guardOf) (getD-take n (table 16 (registerAt F s)) m 0 h ∙ getD-table 16 (registerAt F s) 0 m (omega arith))))
+
+  guards-held : (w : List ℕ) → guardsLeft (formatAt (s .array)) (summary w) ≡ leftOf (formatAt (s .array)) (heldGuards (formatAt (s .array)) (s .array .members) (s .tag))
+  unfolding heldSummary heldGuards
+  guards-held w =
+      let F = formatAt (s .array) in
+      ap (leftOf F) (map-table (λ tag. found F tag .guard) (s .array .members) (λ m. span (F .tagLength * m) (F .tagLength) (s .tag)))
 
   module _ (w : List ℕ) where
-    pub finish-found : finishRefusal s (length w) ≡ 0 → s .array .members ≤ length (s .register) → (members numbers : List ℕ) → members ≡ standingsHeld s
-        → numbers ≡ judged members (nonzero w) → 1 ∷ 0 ∷ numbers ≡ finishNumbers s w
-    unfolding finishNumbers tornPlaces heldSummary
-    finish-found none held members numbers l e =
-        ap (λ (x : List ℕ). 1 ∷ 0 ∷ x) (e ∙ ap (λ (x : List ℕ). judged x (nonzero w)) (l ∙ sym (standing-members-held w held)))
-        ∙ sym (ap (λ (k : ℕ). answer k (verdict (s .array) (s .stripe) (heldSummary (formatAt (s .array)) (s .array .members) (s .register) (s .tag) w))) none)
+    pub finish-found : finishRefusal s (length w) ≡ 0 → s .array .members ≤ 16 → (members numbers : List ℕ) (left : ℕ) → members ≡ standingsHeld s
+        → left ≡ leftOf (formatAt (s .array)) (heldGuards (formatAt (s .array)) (s .array .members) (s .tag))
+        → numbers ≡ judged members (nonzero (w ++ (left ∷ []))) → 1 ∷ 0 ∷ numbers ≡ finishNumbers s w
+    unfolding finishNumbers
+    finish-found none few members numbers left l g e =
+        ap (λ (x : List ℕ). 1 ∷ 0 ∷ x) (e ∙ told)
+        ∙ sym (ap (λ (k : ℕ). answer k (verdict (s .array) (s .stripe) (summary w))) none)
+      where
+        told : judged members (nonzero (w ++ (left ∷ []))) ≡ verdict (s .array) (s .stripe) (summary w)
+        told =
+            ap₂ (λ (x : List ℕ) (y : ℕ). judged x (nonzero (w ++ (y ∷ [])))) (l ∙ sym (standing-members-held w few)) (g ∙ sym (guards-held w))
+            ∙ sym (ap (judged (standingMembers (s .array) (s .stripe) (summary w))) (torn-held (formatAt (s .array)) (s .array .members) (registersOf (formatAt (s .array)) s) (s .tag) w))
 
     pub finish-refused : finishRefusal s (length w) ≢ 0 → finishNumbers s w ≡ 0 ∷ finishRefusal s (length w) ∷ saysClean
     unfolding finishNumbers
-    finish-refused = go (finishRefusal s (length w)) (heldSummary (formatAt (s .array)) (s .array .members) (s .register) (s .tag) w)
+    finish-refused = go (finishRefusal s (length w)) (summary w)
       where
         go : (number : ℕ) (x : Summary) → number ≢ 0 → answer number (verdict (s .array) (s .stripe) x) ≡ 0 ∷ number ∷ saysClean
         go zero x h = absurd (h refl)

@@ -6,6 +6,7 @@ pub mod Finishes
 pub mod Refusals
 pub mod Machine
 pub mod Simulation
+pub mod Registers
 pub mod States
 pub mod Starts
 pub mod Traces

@@ -16,7 +16,7 @@ use Rattle.stripe.specs.Verdicts.{standingMembers, tornPlaces}
 use Rattle.scan.specs.declared.Scan.{Scan}
 use Rattle.scan.specs.declared.Taken.{Taken}
 use Rattle.scan.specs.History.{Call, piece, finish}
-use Rattle.scan.specs.Scans.{heldSummary, pieceRefusal, pieceState, pieceWork, finishRefusal, finishNumbers}
+use Rattle.scan.specs.Scans.{registersOf, heldSummary, pieceRefusal, pieceState, pieceWork, finishRefusal, finishNumbers}
 use Rattle.scan.specs.Runs.{Ran, ended, pieced, finished}
 use Rattle.scan.proofs.Refusals.{refused-verdict}
 
@@ -43,13 +43,13 @@ some-finish s w = go (finishRefusal s (length w)) refl
   where
     go : (number : ℕ) → finishRefusal s (length w) ≡ number → Answered s w
     go zero e =
-        let held = heldSummary (formatAt (s .array)) (s .array .members) (s .register) (s .tag) w in
-        let v = some-verdict (standingMembers (s .array) (s .stripe) held) (tornPlaces held) in
+        let held = heldSummary (formatAt (s .array)) (s .array .members) (registersOf (formatAt (s .array)) s) (s .tag) w in
+        let v = some-verdict (standingMembers (s .array) (s .stripe) held) (tornPlaces (formatAt (s .array)) held) in
         record { given = Found (v .verdict); same = rw e (ap (λ (l : List ℕ). 1 ∷ 0 ∷ l) (v .same)) }
     go (suc number) e =
         record {
           given = Refused (suc number);
-          same = rw e (sym (refused-verdict (s .array) (s .stripe) number (heldSummary (formatAt (s .array)) (s .array .members) (s .register) (s .tag) w)));
+          same = rw e (sym (refused-verdict (s .array) (s .stripe) number (heldSummary (formatAt (s .array)) (s .array .members) (registersOf (formatAt (s .array)) s) (s .tag) w)));
         }
 
 pub every-list-runs : (calls : List Call) (s : Scan) (w : List ℕ) → Ran s w calls

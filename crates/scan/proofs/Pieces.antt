@@ -31,7 +31,7 @@ module _ (F : Format) (n : ℕ) (h : Held F) (history : List (List ℕ)) (t : Fo
   pub position-is : getD (h .at) m 0 ≡ length (getD history m [])
   position-is = sym (getD-take n (h .at) m 0 hm) ∙ ap (λ (l : List ℕ). getD l m 0) (t .at-is) ∙ getD-map-in length history m 0 [] kept-in
 
-  register-now : getD (h .register) m (F .start) ≡ registerOf F (getD history m [])
+  pub register-now : getD (h .register) m (F .start) ≡ registerOf F (getD history m [])
   register-now =
       sym (getD-take n (h .register) m (F .start) hm) ∙ ap (λ (l : List ℕ). getD l m (F .start)) (t .register-is)
       ∙ getD-map-in (registerOf F) history m (F .start) [] kept-in

@@ -1,8 +1,9 @@
 -- Sixteen numbers of a state, passed one by one: the furthest of them, and all of them with another at one place. Assumes nothing.
 use mathlib.Core.Path.{_≡_, sym, ap, _∙_}
 use mathlib.Core.Bool.{cond}
-use mathlib.Core.List.{List}
-use Prim.Native.Nat.{ℕ, _+_, _≤_, _<_, max}
+use mathlib.Core.List.{List, [], _∷_}
+use Prim.Native.Nat.{ℕ, zero, suc, _+_, _≤_, _<_, max}
+use native.Mathlib.Nat.{le-of-suc-le-suc, not-suc-le-zero}
 use native.Mathlib.Decide.{ℕ-discrete, decLt}
 use native.Mathlib.Omega.{arith}
 use borrow.Author.Tests.{eq-eqb, ne-eqb}
@@ -28,3 +29,9 @@ chosen-there l m v i h = go (ℕ-discrete i m)
     go : Dec (i ≡ m) → cond (eqb i m) v (getD l i 0) ≡ getD (set l m v) i 0
     go (yes q) = rw (eq-eqb i m q) (sym (getD-set-same l i v 0 h) ∙ ap (λ (k : ℕ). getD (set l k v) i 0) q)
     go (no q) = rw (ne-eqb i m q) (sym (getD-set-other l m i v 0 q))
+
+-- a number put where it stands already changes nothing
+pub set-as-it-is : (l : List ℕ) (i v : ℕ) → i < length l → getD l i 0 ≡ v → l ≡ set l i v
+set-as-it-is [] i v h e = absurd (not-suc-le-zero h)
+set-as-it-is (x ∷ l) zero v h e = ap (λ (y : ℕ). y ∷ l) e
+set-as-it-is (x ∷ l) (suc i) v h e = ap (λ (m : List ℕ). x ∷ m) (set-as-it-is l i v (le-of-suc-le-suc h) e)

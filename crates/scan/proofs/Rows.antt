@@ -1,7 +1,7 @@
 -- Each call of a scan gives a refusal number exactly where its row of the table holds (specs/Rows), and 0 exactly where none does.
 -- A call's number has a row, found test by test; and a row gives its number. Assumes nothing.
-use mathlib.Core.Path.{_≡_, refl, sym, _∙_}
-use mathlib.Core.Bool.{Bool, true, false, not, true≢false}
+use mathlib.Core.Path.{_≡_, refl, sym, ap, _∙_}
+use mathlib.Core.Bool.{Bool, true, false, not, _||_, true≢false}
 use mathlib.Core.Logic.{_≢_, _↔_}
 use Prim.Native.Nat.{ℕ, zero, suc, _-_, _≤_}
 use native.Mathlib.Omega.{arith}
@@ -17,7 +17,7 @@ use Rattle.scan.specs.declared.Scan.{Scan}
 use Rattle.scan.specs.Scans.{startRefusal, fit, pieceRefusal, finishRefusal}
 use Rattle.scan.specs.Rows.{FitState, Accepted, AllWhole, StartRow, PieceRow, FinishRow, out-of-range, unfit, no-member, other-length, too-long, too-early, done}
 use Rattle.scan.specs.Steps.{allWhole}
-use Rattle.scan.proofs.Fitness.{all-first, first-all, fit-state}
+use Rattle.scan.proofs.Fitness.{all-first, first-all, flag-table, fit-state}
 
 -- a test that fails, from what it asks for
 module _ {P : Type 0} (flag : Bool) (means : (flag ≡ true) ↔ P) where
@@ -36,7 +36,22 @@ module _ {P : Type 0} (flag : Bool) (means : (flag ≡ true) ↔ P) where
 module _ (s : Scan) where
   state-fit : FitState s → fit s ≡ true
   unfolding fit
-  state-fit h = rw (h .numbers, first-all (λ p. leb p (formatAt (s .array) .blockLength)) (s .at) (s .array .members) (λ i k l. le-leb (getD (s .at) i 0) (formatAt (s .array) .blockLength) (h .near i k)))
+  state-fit h =
+      let F = formatAt (s .array) in
+      rw (
+        h .numbers,
+        first-all (λ p. leb p (F .blockLength)) (s .at) (s .array .members) (λ i k l. le-leb (getD (s .at) i 0) (F .blockLength) (h .near i k)),
+        flag-table (s .array .members) (λ m. eqb (getD (s .waiting) m 0) 0 || F .waits (getD (s .at) m 0))
+            (λ i k. may-wait (getD (s .waiting) i 0) (F .waits (getD (s .at) i 0)) refl (h .alone i k)),
+      )
+    where
+      may-wait : (w : ℕ) (x : Bool) {y : Bool} → y ≡ x → (y ≡ false → w ≡ 0) → (eqb w 0 || y) ≡ true
+      may-wait w true e a = ap (λ (z : Bool). eqb w 0 || z) e ∙ or-true (eqb w 0)
+        where
+          or-true : (z : Bool) → (z || true) ≡ true
+          or-true true = refl
+          or-true false = refl
+      may-wait w false {y} e a = ap (λ (z : Bool). z || y) (eq-eqb w 0 (a e))
 
   pub fit-exactly : (fit s ≡ true) ↔ FitState s
   fit-exactly = (fit-state s, state-fit)

@@ -1,10 +1,10 @@
 -- An accepted start: its numbers are in range, and it leaves what follows from a history with nothing in it.
 -- Assumes nothing.
-use mathlib.Core.Path.{_≡_, refl}
+use mathlib.Core.Path.{_≡_, refl, sym, subst}
 use mathlib.Core.List.{List}
 use Prim.Native.Nat.{ℕ, zero, suc}
 use native.Mathlib.Omega.{arith}
-use lib.ListN.{length}
+use lib.ListN.{length, replicate, length-replicate}
 use Rattle.format.specs.Formats.{mostTags}
 use Rattle.layout.specs.Answers.{after}
 use Rattle.layout.specs.Arrays.{stripeRefusal}
@@ -14,7 +14,8 @@ use Rattle.tag.specs.Blocks.{formatAt}
 use Rattle.scan.specs.declared.Scan.{Scan}
 use Rattle.scan.specs.History.{begun}
 use Rattle.scan.specs.Scans.{startRefusal, emptyScan, startState, startWork}
-use Rattle.scan.specs.Holding.{Holds}
+use Rattle.scan.specs.Holding.{Follows, Holds}
+use Rattle.scan.proofs.Registers.{registers-empty}
 use Rattle.scan.proofs.Follows.{fresh-follows}
 
 after-none : (x y : ℕ) → after x y ≡ 0 → x ≡ 0
@@ -29,4 +30,14 @@ module _ (a : Array) (stripe : ℕ) (old : List ℕ) (accepted : startRefusal a 
   pub start-holds : {s : Scan} {w : List ℕ} → s ≡ startState a stripe (length old) → w ≡ startWork a stripe old → Holds a stripe s w (begun (a .members))
   unfolding startState startWork emptyScan
   start-holds e f =
-      rw (e, f, accepted) record { array = refl; place = refl; follows = fresh-follows (formatAt a) 16 mostTags (a .members) (stripe-sound a stripe start-sound .array .many) (let F = formatAt a in omega arith) }
+      rw (e, f, accepted)
+      record {
+        array = refl;
+        place = refl;
+        values = length-replicate {A = ℕ} 16 (formatAt a .start);
+        waiters = refl;
+        follows =
+            subst (λ (registers : List ℕ). Follows (formatAt a) (a .members) (record { at = replicate 16 0; register = registers; tag = replicate mostTags 0; work = replicate (formatAt a .dataLength) 0 }) (begun (a .members)))
+            (sym (registers-empty a stripe))
+            (fresh-follows (formatAt a) 16 mostTags (a .members) (stripe-sound a stripe start-sound .array .many) (let F = formatAt a in omega arith));
+      }

@@ -1,6 +1,7 @@
 -- Demand 3 as a single claim about a list of calls and the answers that they got: however the blocks of a stripe are cut, the scan answers
 -- as the history does, and the quick scrub agrees beside it. Assumes nothing.
 use mathlib.Core.Path.{_≡_}
+use mathlib.Core.Bool.{false}
 use mathlib.Core.Logic.{_≢_}
 use mathlib.Core.List.{List, [], _∷_, _++_, map, foldl}
 use Prim.Native.Nat.{ℕ}
@@ -11,7 +12,8 @@ use Rattle.format.specs.Formats.{guard}
 use Rattle.layout.specs.declared.Array.{Array}
 use Rattle.tag.specs.Blocks.{formatAt, dataOf}
 use Rattle.verdict.specs.Verdicts.{quickNumbers}
-use Rattle.stripe.specs.Verdicts.{scrubBlocks, storedGuard}
+use Rattle.stripe.specs.Stripes.{storedGuard}
+use Rattle.stripe.specs.Verdicts.{scrubBlocks}
 use Rattle.scan.specs.History.{Call, piece, finish, begun, kept, answers}
 
 -- the history after calls: the bytes of each member that were taken
@@ -40,14 +42,14 @@ pub record FoundAllGood (calls before : List Call) (xs : List (List ℕ)) : Type
   pub not-bad : kind ≢ 1
   pub not-unchecked : kind ≢ 3
 
--- the three parts: every answer is the history's; and at every such finish the quick scrub of the stored guards fits where parity is
--- right, and differs, by the guard of the parity difference, where that lies within sixteen successive bits
+-- the three parts: every answer is the history's; and, where guards are those of the data (method 1), at every such finish the quick scrub of
+-- the stored guards fits where parity is right, and differs, by the guard of the parity difference, where that lies within sixteen successive bits
 pub record CutAnywhere (a : Array) (stripe : ℕ) (calls : List Call) (xs : List (List ℕ)) : Type 0 where
   pub answered : xs ≡ answers (formatAt a .blockLength) (a .members) (scrubBlocks a stripe) (begun (a .members)) calls
-  pub quick-fits : ByteCalls calls → (before : List Call) → FoundAllGood calls before xs
+  pub quick-fits : formatAt a .carries ≡ false → ByteCalls calls → (before : List Call) → FoundAllGood calls before xs
       → together a (historyOf a stripe before) ≡ replicate (formatAt a .dataLength) 0
       → quickNumbers (map (storedGuard (formatAt a)) (historyOf a stripe before)) ≡ 1 ∷ 0 ∷ 0 ∷ 0 ∷ []
-  pub quick-differs : ByteCalls calls → (before : List Call) → FoundAllGood calls before xs
+  pub quick-differs : formatAt a .carries ≡ false → ByteCalls calls → (before : List Call) → FoundAllGood calls before xs
       → together a (historyOf a stripe before) ≢ replicate (formatAt a .dataLength) 0
       → Within 16 (bitsOf (together a (historyOf a stripe before))) (bitsOf (replicate (formatAt a .dataLength) 0))
       → (guard (formatAt a) (together a (historyOf a stripe before)) ≢ 0)

@@ -10,6 +10,7 @@ use Rattle.format.specs.Formats.{Format}
 use Rattle.tag.specs.Blocks.{formatAt, dataOf, tagOf}
 use Rattle.stripe.specs.Formats.{registerOf}
 use Rattle.scan.specs.declared.Scan.{Scan}
+use Rattle.scan.specs.Scans.{registersOf}
 
 -- over any format of block
 pub record Held (F : Format) : Type 0 where
@@ -32,10 +33,12 @@ pub record Follows (F : Format) (n : ℕ) (h : Held F) (history : List (List ℕ
 
 -- by the declared state and the lent buffer
 abbrev pub held : (F : Format) → Scan → List ℕ → Held F
-held F s w = record { at = s .at; register = s .register; tag = s .tag; work = w }
+held F s w = record { at = s .at; register = registersOf F s; tag = s .tag; work = w }
 
--- of an array and a stripe: the state's numbers are theirs
+-- of an array and a stripe: the state's numbers are theirs, and it has sixteen values and bytes that wait
 pub record Holds (a : Array) (stripe : ℕ) (s : Scan) (w : List ℕ) (history : List (List ℕ)) : Type 0 where
   pub array : s .array ≡ a
   pub place : s .stripe ≡ stripe
+  pub values : length (s .register) ≡ 16
+  pub waiters : length (s .waiting) ≡ 16
   pub follows : Follows (formatAt a) (a .members) (held (formatAt a) s w) history

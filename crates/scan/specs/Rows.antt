@@ -1,6 +1,7 @@
 -- The rows of the table of refusals, for the calls of a scan: each number with its row's condition, in plain words, where no earlier row
 -- holds; 0 where none does. Assumes nothing.
 use mathlib.Core.Path.{_≡_}
+use mathlib.Core.Bool.{false}
 use mathlib.Core.Logic.{_≢_}
 use Prim.Native.Nat.{ℕ, _+_, _≤_, _<_}
 use lib.ListN.{getD}
@@ -9,11 +10,13 @@ use Rattle.layout.specs.declared.Array.{Array}
 use Rattle.tag.specs.Blocks.{formatAt}
 use Rattle.scan.specs.declared.Scan.{Scan}
 
--- a fit state: its numbers break none of rows 1 to 3, so that its members are sixteen at most, and none of their positions is past the end of a block
+-- a fit state: its numbers break none of rows 1 to 3 and 12, so that its members are sixteen at most; none of their positions is past the end of a
+-- block; and no byte waits where none can
 pub record FitState (s : Scan) : Type 0 where
   pub numbers : stripeRefusal (s .array) (s .stripe) ≡ 0
   pub few : s .array .members ≤ 16
   pub near : (i : ℕ) → i < s .array .members → getD (s .at) i 0 ≤ formatAt (s .array) .blockLength
+  pub alone : (i : ℕ) → i < s .array .members → formatAt (s .array) .waits (getD (s .at) i 0) ≡ false → getD (s .waiting) i 0 ≡ 0
 
 -- what a piece that is taken may count on
 pub record Accepted (s : Scan) (member pieceBytes workBytes : ℕ) : Type 0 where

@@ -1,7 +1,7 @@
 -- The calls of a scan: for each its refusal number, its answer, and the state and work buffer that it leaves, on any state and any
 -- buffer, not only those that a start leads to. Assumes nothing.
 use Prim.Native.Nat.{ℕ, _+_, _-_, _*_}
-use mathlib.Core.Bool.{Bool, not, cond, _&&_}
+use mathlib.Core.Bool.{Bool, not, cond, _&&_, _||_}
 use mathlib.Core.List.{List, _++_, map}
 use lib.Dec.{leb, ltb, eqb}
 use lib.ListN.{length, getD, take, drop, set, replicate}
@@ -11,7 +11,7 @@ use Rattle.layout.specs.Answers.{refuse, after, answer}
 use Rattle.layout.specs.Arrays.{noArray, stripeRefusal}
 use Rattle.layout.specs.declared.Array.{Array}
 use Rattle.stripe.specs.Tables.{table, all, span}
-use Rattle.format.specs.Formats.{Format, mostTags}
+use Rattle.format.specs.Formats.{Format, mostTags, valueIn, waitingIn, registerFrom}
 use Rattle.tag.specs.Blocks.{formatAt}
 use Rattle.stripe.specs.Formats.{Summary}
 use Rattle.stripe.specs.Verdicts.{verdict}
@@ -49,13 +49,29 @@ module _ (F : Format) where
         combined = work;
       }
 
+-- ---- the registers of a state: a value, and the byte that waits for its pair
+
+abbrev pub registerAt : Format → Scan → ℕ → ℕ
+registerAt F s m = registerFrom F (getD (s .register) m 0) (getD (s .waiting) m 0)
+
+unfoldable pub registersOf : Format → Scan → List ℕ
+registersOf F s = table 16 (registerAt F s)
+
 -- ---- start: the buffer cleared, and a state with nothing taken
 
 unfoldable pub startRefusal : Array → ℕ → ℕ → ℕ
 startRefusal a stripe workBytes = after (stripeRefusal a stripe) (refuse (not (eqb workBytes (formatAt a .dataLength))) 6 0)
 
 unfoldable pub emptyScan : Array → ℕ → Scan
-emptyScan a stripe = record { array = a; stripe = stripe; at = replicate 16 0; register = replicate 16 (formatAt a .start); tag = replicate mostTags 0 }
+emptyScan a stripe =
+    record {
+      array = a;
+      stripe = stripe;
+      at = replicate 16 0;
+      register = replicate 16 (formatAt a .start);
+      waiting = replicate 16 0;
+      tag = replicate mostTags 0;
+    }
 
 unfoldable pub startState : Array → ℕ → ℕ → Scan
 startState a stripe workBytes = cond (eqb (startRefusal a stripe workBytes) 0) (emptyScan a stripe) (emptyScan noArray 0)
@@ -63,10 +79,16 @@ startState a stripe workBytes = cond (eqb (startRefusal a stripe workBytes) 0) (
 unfoldable pub startWork : Array → ℕ → List ℕ → List ℕ
 startWork a stripe work = cond (eqb (startRefusal a stripe (length work)) 0) (replicate (formatAt a .dataLength) 0) work
 
--- ---- a state is fit: numbers in range, and no position of the first n past the end of a block
+-- ---- a state is fit: numbers in range, and of the first n members no position past the end of a block, and no byte waiting where none can
+
+abbrev pub waitingFit : Format → ℕ → List ℕ → List ℕ → Bool
+waitingFit F n at waiting = all (table n (λ m. eqb (getD waiting m 0) 0 || F .waits (getD at m 0)))
 
 unfoldable pub fit : Scan → Bool
-fit s = eqb (stripeRefusal (s .array) (s .stripe)) 0 && all (map (λ p. leb p (formatAt (s .array) .blockLength)) (take (s .array .members) (s .at)))
+fit s =
+    eqb (stripeRefusal (s .array) (s .stripe)) 0
+    && all (map (λ p. leb p (formatAt (s .array) .blockLength)) (take (s .array .members) (s .at)))
+    && waitingFit (formatAt (s .array)) (s .array .members) (s .at) (s .waiting)
 
 -- ---- piece
 
@@ -78,12 +100,16 @@ pieceRefusal s member pieceBytes workBytes =
 
 unfoldable pub advanced : Scan → ℕ → List ℕ → Scan
 advanced s member bytes =
+    let F = formatAt (s .array) in
+    let position = getD (s .at) member 0 in
+    let after = F .advance position (registerAt F s member) (dataOfPiece F position bytes) in
     record {
       array = s .array;
       stripe = s .stripe;
-      at = positions (formatAt (s .array)) (s .at) member bytes;
-      register = registers (formatAt (s .array)) (s .at) (s .register) member bytes;
-      tag = tags (formatAt (s .array)) (s .at) (s .tag) member bytes;
+      at = positions F (s .at) member bytes;
+      register = set (s .register) member (valueIn F after);
+      waiting = set (s .waiting) member (waitingIn F after);
+      tag = tags F (s .at) (s .tag) member bytes;
     }
 
 unfoldable pub pieceState : Scan → ℕ → List ℕ → ℕ → Scan
@@ -102,4 +128,4 @@ finishRefusal s workBytes =
 
 unfoldable pub finishNumbers : Scan → List ℕ → List ℕ
 finishNumbers s work =
-    answer (finishRefusal s (length work)) (verdict (s .array) (s .stripe) (heldSummary (formatAt (s .array)) (s .array .members) (s .register) (s .tag) work))
+    answer (finishRefusal s (length work)) (verdict (s .array) (s .stripe) (heldSummary (formatAt (s .array)) (s .array .members) (registersOf (formatAt (s .array)) s) (s .tag) work))

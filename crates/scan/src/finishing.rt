@@ -1,18 +1,21 @@
 // A scan ends in the full scrub's verdict.
 ghost use mathlib.Core.Path.{_≡_};
-ghost use Prim.Native.Nat.{_*_, _≤_};
+ghost use Prim.Native.Nat.{_*_, _≤_, _<_};
 ghost use lib.ListN.{length, take};
 ghost use Rattle.format.specs.Formats.{mostTags};
 ghost use Rattle.format.specs.Methods.{formatOf};
 ghost use Rattle.layout.specs.Arrays.{stripeRefusal};
 ghost use Rattle.layout.specs.Places.{ownerRefusal};
-ghost use Rattle.verdict.specs.Verdicts.{scrubbedNumbers};
+ghost use Rattle.tag.specs.Tags.{found};
+ghost use Rattle.verdict.specs.Verdicts.{scrubbedNumbers, combinedGuards};
+ghost use Rattle.stripe.specs.Tables.{span};
+ghost use Rattle.stripe.specs.Stripes.{leftOf};
 ghost use Rattle.scan.specs.Scans.{finishRefusal, finishNumbers};
-ghost use Rattle.scan.specs.Steps.{allWhole, heldStanding, standingsHeld};
+ghost use Rattle.scan.specs.Steps.{allWhole, heldStanding, standingsHeld, heldGuards};
 use crate::Scan;
 use crate::fit;
 use crate::tag_at;
-use format::METHOD;
+use format::register_of;
 use layout::Array;
 use verdict::Scrubbed;
 
@@ -36,10 +39,12 @@ fn all_whole(method: u8, at: [u16; 16], members: usize) -> bool
 fn finish_refusal(state: Scan, length: usize) -> u8
     ensures { λ r. ⌜ r ≡ finishRefusal state length ⌝ }
 {
-    let members = state.array.members;
+    let array = state.array;
+    let members = array.members;
     let at = state.at;
-    let method = METHOD;
-    if !fit(state) {
+    let waiting = state.waiting;
+    let method = array.method;
+    if !fit(array, state.stripe, at, waiting) {
         return 4;
     }
     if length != format::data_length(method) {
@@ -52,16 +57,20 @@ fn finish_refusal(state: Scan, length: usize) -> u8
 }
 
 // How a member with this register stands, by its tag bytes among those held.
-fn standing(array: Array, stripe: u64, member: usize, register: u16, tags: &[u8]) -> u8
+fn standing(array: Array, stripe: u64, member: usize, register: u32, tags: &[u8]) -> u8
     requires { ⌜ ownerRefusal array stripe member ≡ 0 ⌝ }
     requires { ⌜ length (now tags) ≡ mostTags ⌝ }
     ensures { λ r. ⌜ r ≡ heldStanding array stripe member register (now (tags .entry)) ⌝ }
 {
-    let method = METHOD;
+    let method = array.method;
     let at = tag_at(method, member);
-    let guard = format::guard_of(method, register as u32);
-    let expected = tag::due(array, stripe, member, guard);
-    tag::standing(method, tag::found(method, tags, at), expected)
+    let guard = format::guard_of(method, register);
+    let found = tag::found(method, tags, at);
+    tag::standing(
+        method,
+        found,
+        tag::expected(array, stripe, member, found, guard),
+    )
 }
 
 // How the members stand, in member order from the front.
@@ -71,9 +80,11 @@ fn standings(state: Scan) -> [u8; 16]
 {
     let array = state.array;
     let stripe = state.stripe;
-    let register = state.register;
+    let values = state.register;
+    let waiting = state.waiting;
     let tags = state.tag;
     let members = array.members;
+    let method = array.method;
     let mut standing = [0u8; 16];
     let mut member: usize = 0;
     while member < members {
@@ -81,12 +92,49 @@ fn standings(state: Scan) -> [u8; 16]
             array,
             stripe,
             member,
-            register[member],
+            register_of(method, values[member], waiting[member]),
             &tags,
         );
         member += 1;
     }
     standing
+}
+
+// The guard in a member's tag among those held.
+fn held_guard(method: u8, tags: &[u8], member: usize) -> u64
+    requires { ⌜ member < 16 ⌝ }
+    requires { ⌜ length (now tags) ≡ mostTags ⌝ }
+    ensures { λ r. ⌜ r ≡ found (formatOf method) (span (formatOf method .tagLength * member) (formatOf method .tagLength) (now (tags .entry))) .guard ⌝ }
+{
+    let found = tag::found(method, tags, tag_at(method, member));
+    found.guard
+}
+
+// What the guards in the tags held of the first members combine to.
+fn combined_held(method: u8, tags: &[u8], members: usize) -> u64
+    requires { ⌜ members ≤ 16 ⌝ }
+    requires { ⌜ length (now tags) ≡ mostTags ⌝ }
+    ensures { λ r. ⌜ r ≡ combinedGuards (heldGuards (formatOf method) members (now (tags .entry))) ⌝ }
+{
+    let mut guards: u64 = 0;
+    let mut member: usize = 0;
+    while member < members {
+        guards = guards ^ held_guard(method, tags, member);
+        member += 1;
+    }
+    guards
+}
+
+// What is left of them, where the parity carries the data members'.
+fn guards_left(method: u8, tags: &[u8], members: usize) -> u64
+    requires { ⌜ members ≤ 16 ⌝ }
+    requires { ⌜ length (now tags) ≡ mostTags ⌝ }
+    ensures { λ r. ⌜ r ≡ leftOf (formatOf method) (heldGuards (formatOf method) members (now (tags .entry))) ⌝ }
+{
+    if format::carries(method) {
+        return combined_held(method, tags, members);
+    }
+    0
 }
 
 // Ends a scan: the verdict by what the state and the work buffer hold. It changes nothing, and may be asked again.
@@ -98,6 +146,8 @@ pub fn finish(state: Scan, work: &[u8]) -> Scrubbed
         return Scrubbed::Refused(refusal);
     }
     let members = state.array.members;
+    let tags = state.tag;
     let standing = standings(state);
-    Scrubbed::Found(verdict::judge(&standing[0..members], work))
+    let left = guards_left(state.array.method, &tags, members);
+    Scrubbed::Found(verdict::judge(&standing[0..members], work, left))
 }

@@ -11,19 +11,20 @@ ghost use mathlib.Core.Path.{_≡_};
 ghost use Prim.Native.Nat.{ℕ, _*_, _≤_, _<_, max};
 ghost use lib.ListN.{getD};
 ghost use Rattle.format.specs.Methods.{formatOf};
+ghost use Rattle.scan.specs.declared.Scan.{Scan};
 ghost use Rattle.scan.specs.Scans.{fit};
-ghost use Rattle.scan.specs.Steps.{nonePast};
-use format::METHOD;
+ghost use Rattle.scan.specs.Steps.{memberFit, membersFit};
 use format::MOST_TAGS;
 use layout::Array;
 
 // What is held of a stripe between the calls, beside the work buffer: of each member its position in its block, its guard's
-// register, and the bytes of its tag.
+// register, with the byte that waits for its pair, and the bytes of its tag.
 pub struct Scan {
     pub array: Array,
     pub stripe: u64,
     pub at: [u16; 16],
     pub register: [u16; 16],
+    pub waiting: [u8; 16],
     pub tag: [u8; MOST_TAGS],
 }
 
@@ -35,6 +36,13 @@ pub struct Taken {
 
 // The greater of two positions.
 fn most(a: u16, b: u16) -> u16
+    ensures { λ r. ⌜ r ≡ max a b ⌝ }
+{
+    if a < b { b } else { a }
+}
+
+// And of two bytes.
+fn greater(a: u8, b: u8) -> u8
     ensures { λ r. ⌜ r ≡ max a b ⌝ }
 {
     if a < b { b } else { a }
@@ -53,18 +61,40 @@ fn furthest(at: [u16; 16]) -> u16
     far
 }
 
-// Whether none of the first positions stands past the end of a block. The furthest of all tells it at once, but for one past the first.
-fn none_past(method: u8, at: [u16; 16], members: usize) -> bool
-    requires { ⌜ members ≤ 16 ⌝ }
-    ensures { λ r. ⌜ r ≡ nonePast (formatOf method) members at ⌝ }
+// The greatest of all sixteen bytes that wait.
+fn most_waiting(waiting: [u8; 16]) -> u8
+    ensures { λ r. ⌜ ((i : ℕ) → i < 16 → getD waiting i 0 ≤ r) ⌝ }
 {
-    let block = format::block_length(method);
-    if furthest(at) as usize <= block {
+    let mut most: u8 = 0;
+    let mut i: usize = 0;
+    while i < 16 {
+        most = greater(most, waiting[i]);
+        i += 1;
+    }
+    most
+}
+
+// Whether a member may stand at a position with this byte waiting: none past the end of a block, and nothing waits but where a byte can.
+fn member_fits(method: u8, position: u16, waiting: u8) -> bool
+    ensures { λ r. ⌜ r ≡ memberFit (formatOf method) position waiting ⌝ }
+{
+    if position as usize > format::block_length(method) {
+        return false;
+    }
+    if waiting == 0 {
         return true;
     }
+    format::waits(method, position as usize)
+}
+
+// Whether the first members all may stand as they do.
+fn members_fit(method: u8, at: [u16; 16], waiting: [u8; 16], members: usize) -> bool
+    requires { ⌜ members ≤ 16 ⌝ }
+    ensures { λ r. ⌜ r ≡ membersFit (formatOf method) members at waiting ⌝ }
+{
     let mut member: usize = 0;
     while member < members {
-        if at[member] as usize > block {
+        if !member_fits(method, at[member], waiting[member]) {
             return false;
         }
         member += 1;
@@ -80,17 +110,21 @@ fn tag_at(method: u8, member: usize) -> usize
     format::tag_length(method) * member
 }
 
-// Whether a state is fit: its numbers are in range, and so are its members' positions.
-fn fit(state: Scan) -> bool
-    ensures { λ r. ⌜ r ≡ fit state ⌝ }
+// Whether a state is fit, by those of its fields that tell: its numbers are in range, its members' positions too, and bytes wait only where they can. That of all sixteen none is too far
+// and none waits tells it at once; else each of the members has to be looked at.
+fn fit(array: Array, stripe: u64, at: [u16; 16], waiting: [u8; 16]) -> bool
+    ensures { λ r. ⌜ ((s : Scan) → s .array ≡ array → s .stripe ≡ stripe → s .at ≡ at → s .waiting ≡ waiting → r ≡ fit s) ⌝ }
 {
-    let array = state.array;
-    let stripe = state.stripe;
     let members = array.members;
-    let at = state.at;
-    let method = METHOD;
+    let method = array.method;
     if layout::stripe_refusal(array, stripe) != 0 {
         return false;
     }
-    none_past(method, at, members)
+    if furthest(at) as usize > format::block_length(method) {
+        return members_fit(method, at, waiting, members);
+    }
+    if most_waiting(waiting) != 0 {
+        return members_fit(method, at, waiting, members);
+    }
+    true
 }

@@ -4,7 +4,6 @@ ghost use lib.ListN.{length, replicate};
 ghost use Rattle.scan.specs.Scans.{startRefusal, emptyScan, startState, startWork};
 use crate::Scan;
 use crate::Taken;
-use format::METHOD;
 use format::MOST_TAGS;
 use layout::Array;
 
@@ -16,7 +15,7 @@ fn start_refusal(array: Array, stripe: u64, length: usize) -> u8
     if refusal != 0 {
         return refusal;
     }
-    if length != format::data_length(METHOD) {
+    if length != format::data_length(array.method) {
         return 6;
     }
     0
@@ -37,12 +36,13 @@ fn clear(work: &mut [u8])
 fn empty(array: Array, stripe: u64) -> Scan
     ensures { λ r. ⌜ r ≡ emptyScan array stripe ⌝ }
 {
-    let first = format::start(METHOD) as u16;
+    let first = format::start(array.method) as u16;
     Scan {
         array: array,
         stripe: stripe,
         at: [0; 16],
         register: [first; 16],
+        waiting: [0; 16],
         tag: [0; MOST_TAGS],
     }
 }

@@ -14,19 +14,23 @@ use crate::Taken;
 use crate::fit;
 use crate::tag_at;
 use copy::put;
-use format::METHOD;
 use format::data_room;
+use format::register_of;
 use format::tag_place;
+use format::value_in;
+use format::waiting_in;
 use xor::least;
 
 // The refusal number of a piece: an unfit state, no such member, a work buffer of another length, more than the member lacks.
 fn piece_refusal(state: Scan, member: usize, count: usize, length: usize) -> u8
     ensures { λ r. ⌜ r ≡ pieceRefusal state member count length ⌝ }
 {
-    let members = state.array.members;
+    let array = state.array;
+    let members = array.members;
     let at = state.at;
-    let method = METHOD;
-    if !fit(state) {
+    let waiting = state.waiting;
+    let method = array.method;
+    if !fit(array, state.stripe, at, waiting) {
         return 4;
     }
     if member >= members {
@@ -80,6 +84,19 @@ fn replaced(held: [u16; 16], place: u16, value: u16) -> [u16; 16]
     next
 }
 
+// Sixteen bytes with another at one place. Most often it stands there already, and then nothing is stored that the next call would have to wait for.
+fn replaced_byte(held: [u8; 16], place: usize, value: u8) -> [u8; 16]
+    requires { ⌜ place < 16 ⌝ }
+    ensures { λ r. ⌜ r ≡ set held place value ⌝ }
+{
+    if held[place] == value {
+        return held;
+    }
+    let mut next = held;
+    next[place] = value;
+    next
+}
+
 // Passes a piece on, from a position of its block on and with the guard's register there. It is cut once: bytes of data, as far as the block's data
 // go, then bytes of tag. Gives the register after it.
 fn pass_on(
@@ -110,7 +127,25 @@ fn pass_on(
     after
 }
 
-// The same; of a whole block for which nothing was taken, with numbers that wait for no state.
+// The same of a whole block for which nothing was taken: nothing is cut, and no number waits for the state.
+fn pass_whole(method: u8, member: usize, bytes: &[u8], work: &mut [u8], tag: &mut [u8]) -> u32
+    requires { ⌜ member < 16 ⌝ }
+    requires { ⌜ length (now bytes) ≡ formatOf method .blockLength ⌝ }
+    requires { ⌜ length (now work) ≡ formatOf method .dataLength ⌝ }
+    ensures { λ r. ⌜ r ≡ formatOf method .advance 0 (formatOf method .start) (dataOfPiece (formatOf method) 0 (now (bytes .entry))) ⌝ }
+    ensures { λ _. ⌜ now (work .exit) ≡ combinedFrom (formatOf method) 0 (now (work .entry)) (now (bytes .entry)) ⌝ }
+    ensures { λ _. ⌜ now (tag .exit) ≡ tagsFrom (formatOf method) 0 (now (tag .entry)) member (now (bytes .entry)) ⌝ }
+{
+    let data = format::data_length(method);
+    let block = format::block_length(method);
+    let head = &bytes[0..data];
+    put(tag, tag_at(method, member), &bytes[data..block]);
+    let after = format::advance(method, 0, format::start(method), head);
+    xor::xor_into(work, head);
+    after
+}
+
+// The same, whichever it is.
 fn pass(
     method: u8,
     member: usize,
@@ -127,11 +162,9 @@ fn pass(
     ensures { λ _. ⌜ now (work .exit) ≡ combinedFrom (formatOf method) position (now (work .entry)) (now (bytes .entry)) ⌝ }
     ensures { λ _. ⌜ now (tag .exit) ≡ tagsFrom (formatOf method) position (now (tag .entry)) member (now (bytes .entry)) ⌝ }
 {
-    let block = format::block_length(method);
-    let first = format::start(method);
-    if bytes.len() == block {
-        if register == first {
-            return pass_on(method, member, 0, first, &bytes[0..block], work, tag);
+    if bytes.len() == format::block_length(method) {
+        if register == format::start(method) {
+            return pass_whole(method, member, bytes, work, tag);
         }
     }
     pass_on(method, member, position, register, bytes, work, tag)
@@ -145,29 +178,25 @@ fn take_in(state: Scan, member: usize, bytes: &[u8], work: &mut [u8]) -> Scan
     ensures { λ r. ⌜ r ≡ advanced state member (now (bytes .entry)) ⌝ }
     ensures { λ _. ⌜ now (work .exit) ≡ buffer (formatAt (state .array)) (state .at) (now (work .entry)) member (now (bytes .entry)) ⌝ }
 {
-    let method = METHOD;
     let array = state.array;
+    let method = array.method;
     let positions = state.at;
-    let registers = state.register;
+    let values = state.register;
+    let bytes_waiting = state.waiting;
     let mut tag = state.tag;
     let position = positions[member] as usize;
     let count = bytes.len();
-    let after = pass(
-        method,
-        member,
-        position,
-        registers[member] as u32,
-        bytes,
-        work,
-        &mut tag,
-    );
+    let register = register_of(method, values[member], bytes_waiting[member]);
+    let after = pass(method, member, position, register, bytes, work, &mut tag);
     let at = replaced(positions, member as u16, (position + count) as u16);
-    let register = replaced(registers, member as u16, after as u16);
+    let value = replaced(values, member as u16, value_in(method, after));
+    let waiting = replaced_byte(bytes_waiting, member, waiting_in(method, after));
     Scan {
         array,
         stripe: state.stripe,
         at,
-        register,
+        register: value,
+        waiting,
         tag,
     }
 }

@@ -15,10 +15,10 @@ use Rattle.layout.specs.declared.Array.{Array}
 use Rattle.format.specs.Formats.{Format}
 use Rattle.format.proofs.Sizes.{times-next}
 use Rattle.tag.specs.Blocks.{formatAt}
-use Rattle.tag.specs.Tags.{due, dueAt, tagBytes, tagWritten, tagged}
+use Rattle.tag.specs.Tags.{due, dueAt, tagBytes, tagWritten, taggedBy}
 use Rattle.tag.proofs.Within.{written-inside}
 use Rattle.tag.specs.declared.Fields.{Fields}
-use Rattle.tag.proofs.Expected.{due-somewhere}
+use Rattle.tag.proofs.Owed.{due-somewhere}
 use Rattle.stripe.specs.Tables.{table, joined, span}
 use Rattle.stripe.specs.Stripes.{blockOf}
 use Rattle.stripe.specs.Jobs.{withBlock}
@@ -72,19 +72,19 @@ block-kept F bytes m k block long ne = go (decLt k m)
         let after : m < k = omega arith in
         span-sets-above bytes ((F .blockLength) * k) (F .blockLength) ((F .blockLength) * m) block (omega (arith, times-next (F .blockLength) m k after))
 
--- written as the code writes it: its data, then the tag due to them
+-- written as the code writes it: its data, then the tag due there
 pub block-in-two : (a : Array) (stripe m g from to : ℕ) (f : Fields) (bytes once twice content : List ℕ) → ownerRefusal a stripe m ≡ 0 → length content ≡ formatAt a .dataLength
-    → formatAt a .blockLength * m + formatAt a .blockLength ≤ length bytes → g ≡ guard (formatAt a) content → f ≡ dueAt a stripe m g
+    → formatAt a .blockLength * m + formatAt a .blockLength ≤ length bytes → f ≡ dueAt a stripe m g
     → from ≡ formatAt a .blockLength * m → to ≡ from + formatAt a .dataLength
     → once ≡ sets bytes from content → twice ≡ tagWritten (formatAt a) f once to
-    → twice ≡ withBlock (formatAt a) bytes m (tagged a stripe m content)
-unfolding tagged
-block-in-two a stripe m g from to f bytes once twice content place long room eg ef here there e₁ e₂ =
+    → twice ≡ withBlock (formatAt a) bytes m (taggedBy a stripe m g content)
+unfolding taggedBy
+block-in-two a stripe m g from to f bytes once twice content place long room ef here there e₁ e₂ =
     let F = formatAt a in
     let tag = tagBytes F f in
     let kept : length once ≡ length bytes = ap length e₁ ∙ length-sets bytes from content in
     let inside : to + F .tagLength ≤ length once = omega (arith, F .block-parts) in
-    let due-here : tag ≡ tagBytes F (due a stripe m (guard F content)) = ap (tagBytes F) (ef ∙ due-somewhere a stripe m g place ∙ ap (due a stripe m) eg) in
+    let due-here : tag ≡ tagBytes F (due a stripe m g) = ap (tagBytes F) (ef ∙ due-somewhere a stripe m g place) in
     let behind : to ≡ from + length content = there ∙ ap (λ (k : ℕ). from + k) (sym long) in
     e₂ ∙ written-inside F once to f inside ∙ ap₂ (λ (l : List ℕ) (k : ℕ). sets l k tag) e₁ behind ∙ sets-append bytes from content tag
     ∙ ap₂ (λ (k : ℕ) (l : List ℕ). sets bytes k (content ++ l)) here due-here

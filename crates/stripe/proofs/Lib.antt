@@ -8,6 +8,7 @@ pub mod Others
 pub mod Checked
 pub mod Rebuilds
 pub mod Parity
+pub mod Carried
 pub mod Guards
 pub mod Injective
 pub mod Verdicts
@@ -27,5 +28,7 @@ pub mod CombinedGuards
 pub mod Torn
 pub mod Clean
 pub mod RebuildClean
+pub mod Cure
+pub mod WriteHole
 pub mod NoneUnchecked
 pub mod Rooms

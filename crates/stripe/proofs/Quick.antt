@@ -1,8 +1,8 @@
--- The quick scrub on the stored guards of whole blocks: where no member is bad or unchecked it sees the guard of the blocks' combination, so it fits
+-- The quick scrub on the stored guards of whole blocks, where these are guards of data (method 1): where no member is bad or unchecked it sees the guard of the blocks' combination, so it fits
 -- where the data combine to zero, and differs wherever they do not and all one bits lie within sixteen successive bits.
 -- Assumes nothing.
 use mathlib.Core.Path.{_≡_, refl, sym, ap, ap₂, _∙_}
-use mathlib.Core.Bool.{true}
+use mathlib.Core.Bool.{false}
 use mathlib.Core.List.{List, [], _∷_, map}
 use mathlib.Core.Logic.{_≢_}
 use Prim.Native.Nat.{ℕ, zero, suc, _+_, _≤_, _<_, suc-le-suc}
@@ -16,21 +16,20 @@ use Rattle.xor.proofs.Lists.{length-xors, xors-self}
 use Rattle.xor.proofs.Combination.{length-combination, bytes-addAll}
 use Rattle.crc.specs.Crc.{bitsOf, Bytes, Within}
 use Rattle.format.specs.Formats.{Format, guard, spare}
-use Rattle.format.proofs.Laws.{combines, notices, blank-none, spare-none}
-use Rattle.format.proofs.Combined.{guard-combination}
+use Rattle.format.proofs.Laws.{combines, notices, blank-none}
+use Rattle.format.proofs.Combined.{spare-zero, guard-combination}
 use Rattle.crc.proofs.Linear.{bitsOf-xors}
 use Rattle.layout.specs.Ranges.{Sound}
 use Rattle.layout.specs.declared.Array.{Array}
 use Rattle.tag.specs.Blocks.{formatAt, dataOf}
-use Rattle.tag.specs.Tags.{due, good}
-use Rattle.tag.specs.declared.Fields.{Fields}
-use Rattle.tag.proofs.Cases.{good-fields}
+use Rattle.tag.proofs.Guards.{own-plain}
+use Rattle.tag.proofs.Cases.{good-guard}
 use Rattle.tag.proofs.Tagged.{length-data, bytes-of-data}
 use Rattle.verdict.specs.Verdicts.{combinedGuards, quickRefusal, quickNumbers}
 use Rattle.verdict.proofs.Verdicts.{zeros-at}
 use Rattle.verdict.proofs.Quick.{sound-quick, quick-fits, quick-differs}
-use Rattle.stripe.specs.Stripes.{Whole}
-use Rattle.stripe.specs.Verdicts.{storedGuard, scrubBlocks}
+use Rattle.stripe.specs.Stripes.{storedGuard, Whole}
+use Rattle.stripe.specs.Verdicts.{scrubBlocks}
 use Rattle.stripe.proofs.Guards.{together-guards}
 use Rattle.stripe.proofs.Scrubs.{blocks-good}
 
@@ -56,11 +55,6 @@ stored-guards F [] right = refl
 stored-guards F (b ∷ blocks) right =
     ap₂ (λ (g : ℕ) (gs : List ℕ). g ∷ gs) (right 0 (zero-lt-suc (length blocks))) (stored-guards F blocks (λ i h. right (suc i) (suc-le-suc h)))
 
--- the guard stored in a good block is that of its data
-pub good-guard : (a : Array) (s m : ℕ) (block : List ℕ) → good a s m block ≡ true → storedGuard (formatAt a) block ≡ guard (formatAt a) (dataOf (formatAt a) block)
-unfolding due
-good-guard a s m block h = ap (λ (f : Fields). f .guard) (good-fields a s m block h)
-
 -- the one bits of a combination lie within sixteen successive bits: it differs from zeros only there
 pub within-zeros : (n from : ℕ) (bytes : List ℕ) → ((k : ℕ) → k < from → getD (bitsOf bytes) k 0 ≡ 0)
     → ((k : ℕ) → from + 16 ≤ k → getD (bitsOf bytes) k 0 ≡ 0) → Within 16 (bitsOf bytes) (bitsOf (replicate n 0))
@@ -74,7 +68,7 @@ within-zeros n from bytes low high = record { from = from; before = λ k h. low 
     none : (k : ℕ) → getD (bitsOf (replicate n 0)) k 0 ≡ 0
     none k = ap (λ (l : List ℕ). getD l k 0) all ∙ zeros-at (length (bitsOf (replicate n 0))) k
 
-module _ (a : Array) (s : ℕ) (blocks : List (List ℕ)) (sound : Sound a) (whole : Whole a blocks) (none-bad : getD (scrubBlocks a s blocks) 0 0 ≢ 1) (all-checked : getD (scrubBlocks a s blocks) 0 0 ≢ 3) where
+module _ (a : Array) (s : ℕ) (blocks : List (List ℕ)) (sound : Sound a) (whole : Whole a blocks) (plain : formatAt a .carries ≡ false) (none-bad : getD (scrubBlocks a s blocks) 0 0 ≢ 1) (all-checked : getD (scrubBlocks a s blocks) 0 0 ≢ 3) where
   -- the stored guards combined are the guard of the combination, and that of a block of zeros where the members are even in number
   pub guards-combined : bitXor (combinedGuards (map (storedGuard (formatAt a)) blocks)) (spare (formatAt a) (suc (a .members)))
       ≡ guard (formatAt a) (combination (formatAt a .dataLength) (map (dataOf (formatAt a)) blocks))
@@ -82,16 +76,16 @@ module _ (a : Array) (s : ℕ) (blocks : List (List ℕ)) (sound : Sound a) (who
       let F = formatAt a in
       let count : length (map (dataOf F) blocks) ≡ a .members = length-map blocks (dataOf F) ∙ whole .all-there in
       ap₂ (λ (x n : ℕ). bitXor x (spare F (suc n)))
-      (ap combinedGuards (stored-guards F blocks (λ i h. good-guard a s i (getD blocks i []) (blocks-good a s blocks (whole .all-there) none-bad all-checked i (omega (arith, whole .all-there)))))
+      (ap combinedGuards (stored-guards F blocks (λ i h. good-guard a s i (getD blocks i []) (own-plain a s i plain) (blocks-good a s blocks (whole .all-there) none-bad all-checked i (omega (arith, whole .all-there)))))
       ∙ sym (together-guards (map (guard F) (map (dataOf F) blocks)))) (sym count)
-      ∙ sym (guard-combination F (combines 1) (map (dataOf F) blocks) (lengths-data F blocks (whole .long)))
+      ∙ sym (guard-combination F (combines (a .method) plain) (map (dataOf F) blocks) (lengths-data F blocks (whole .long)))
 
   -- method 1: a block of zeros has guard 0
   combined-plainly : combinedGuards (map (storedGuard (formatAt a)) blocks)
       ≡ guard (formatAt a) (combination (formatAt a .dataLength) (map (dataOf (formatAt a)) blocks))
   combined-plainly =
       let x = combinedGuards (map (storedGuard (formatAt a)) blocks) in
-      sym (xor-zero-r x) ∙ ap (bitXor x) (sym (spare-none (suc (a .members)))) ∙ guards-combined
+      sym (xor-zero-r x) ∙ ap (bitXor x) (sym (spare-zero (formatAt a) (suc (a .members)) (blank-none (a .method) plain))) ∙ guards-combined
 
   enough : quickRefusal (length (map (storedGuard (formatAt a)) blocks)) ≡ 0
   enough =
@@ -101,7 +95,7 @@ module _ (a : Array) (s : ℕ) (blocks : List (List ℕ)) (sound : Sound a) (who
   -- the data combine to zero at every byte: it fits
   pub fits-where-zero : combination (formatAt a .dataLength) (map (dataOf (formatAt a)) blocks) ≡ replicate (formatAt a .dataLength) 0
       → quickNumbers (map (storedGuard (formatAt a)) blocks) ≡ 1 ∷ 0 ∷ 0 ∷ 0 ∷ []
-  fits-where-zero e = quick-fits (map (storedGuard (formatAt a)) blocks) enough (combined-plainly ∙ ap (guard (formatAt a)) e ∙ blank-none)
+  fits-where-zero e = quick-fits (map (storedGuard (formatAt a)) blocks) enough (combined-plainly ∙ ap (guard (formatAt a)) e ∙ blank-none (a .method) plain)
 
   -- they do not, by one bits that lie within sixteen successive bits: it differs
   pub differs-within : combination (formatAt a .dataLength) (map (dataOf (formatAt a)) blocks) ≢ replicate (formatAt a .dataLength) 0
@@ -113,11 +107,11 @@ module _ (a : Array) (s : ℕ) (blocks : List (List ℕ)) (sound : Sound a) (who
       let F = formatAt a in
       let combined = combination (F .dataLength) (map (dataOf F) blocks) in
       let seen : guard F combined ≢ 0 =
-      λ e. notices 1 combined (replicate (F .dataLength) 0)
+      λ e. notices (a .method) plain combined (replicate (F .dataLength) 0)
       (bytes-addAll (replicate (F .dataLength) 0) (map (dataOf F) blocks) (bytes-zeros (F .dataLength)) (bytes-data F blocks (whole .bytes)))
       (bytes-zeros (F .dataLength))
       (length-combination (F .dataLength) (map (dataOf F) blocks) ∙ sym (length-replicate {A = ℕ} (F .dataLength) 0))
-      within ne (e ∙ sym blank-none) in (
+      within ne (e ∙ sym (blank-none (a .method) plain)) in (
         seen,
         quick-differs (map (storedGuard F) blocks) enough (λ e. seen (sym combined-plainly ∙ e))
             ∙ ap (λ (g : ℕ). 1 ∷ 0 ∷ 1 ∷ g ∷ []) combined-plainly,

@@ -15,8 +15,9 @@ use lib.ListN.{length, take}
 use lib.Seq.{length-sets}
 use Rattle.xor.specs.Xors.{combination}
 use Rattle.xor.proofs.Combination.{length-combination}
-use lib.Bits.{bitXor}
-use Rattle.format.specs.Formats.{guard, spare, guardsOf}
+use lib.Bits.{bitXor, xor-zero-r}
+use Rattle.format.specs.Formats.{guard, spare, settled, guardsOf}
+use Rattle.format.proofs.Combined.{settled-carried, settled-plain}
 use Rattle.format.proofs.Laws.{combines}
 use Rattle.format.proofs.Sizes.{times-next}
 use Rattle.layout.specs.Answers.{refuse, after}
@@ -27,17 +28,18 @@ use Rattle.layout.specs.declared.Array.{Array}
 use Rattle.layout.proofs.Answers.{after-refused, refuse-none}
 use Rattle.layout.proofs.Members.{parity-below, member-below, member-not-parity, index-of-member, index-below}
 use Rattle.tag.specs.Blocks.{formatAt, dataOf}
-use Rattle.tag.specs.Tags.{tagged}
-use Rattle.tag.proofs.Tagged.{length-tagged, data-of-tagged}
+use Rattle.tag.specs.Tags.{guardDue, taggedBy, tagged}
+use Rattle.tag.proofs.Guards.{carried-parity, own-plain, guard-carried, guard-own}
+use Rattle.tag.proofs.Tagged.{tagged-by, length-tagged, data-of-tagged}
 use Rattle.verdict.specs.Verdicts.{combinedGuards}
 use Rattle.stripe.specs.Tables.{table, others, part}
-use Rattle.stripe.specs.Stripes.{stripeLength, blockOf, memberData, othersData}
-use Rattle.stripe.specs.Jobs.{withBlock, parityOf, sealedData, sealed, sealRefusal, sealBytes}
+use Rattle.stripe.specs.Stripes.{stripeLength, blockOf, othersData}
+use Rattle.stripe.specs.Jobs.{withBlock, parityOf, guardOfParts, sealedData, sealed, sealRefusal, sealBytes}
 use Rattle.stripe.specs.Accepted.{Fitting}
 use Rattle.stripe.specs.Steps.{dataBlock, dataWritten}
 use Rattle.stripe.proofs.Tables.{table-ext}
 use Rattle.stripe.proofs.Rows.{length-span}
-use Rattle.stripe.proofs.Guards.{parts-guard}
+use Rattle.stripe.proofs.Guards.{first-guards, parts-guard}
 use Rattle.stripe.proofs.Blocks.{block-written, block-kept, span-joined, length-joined, same-blocks}
 
 -- ---- all members but the parity's, by data index
@@ -69,24 +71,30 @@ module _ (a : Array) (stripe : ℕ) (content : List ℕ) (sound : SoundStripe a 
 
   pub length-data-block : (m : ℕ) → m < a .members → m ≢ parityMember a stripe → length (dataBlock a stripe content m) ≡ (formatAt a .blockLength)
   length-data-block m h ne =
-      length-tagged a stripe m (part (formatAt a .dataLength) content (indexAt a stripe m)) (enough (indexAt a stripe m) (index-below a stripe m h ne))
+      length-tagged a stripe m (guardOfParts a content) (part (formatAt a .dataLength) content (indexAt a stripe m)) (enough (indexAt a stripe m) (index-below a stripe m h ne))
+
+  -- all but the parity's, in the order of the data
+  others-by-index : {A : Type 0} (f : ℕ → A) → others (parityMember a stripe) (table (a .members) f) ≡ table (dataMembers a) (λ i. f (memberAt a stripe i))
+  unfolding memberAt
+  others-by-index f =
+      let n-is : suc (dataMembers a) ≡ a .members = omega (arith, sound .array .few) in
+      ap (λ (n : ℕ). others (parityMember a stripe) (table n f)) (sym n-is)
+      ∙ others-table (dataMembers a) (parityMember a stripe) f (rw n-is (parity-below a stripe (omega (arith, sound .array .few))))
+
+  -- what every data member has of its part of the data
+  pub others-of-parity : {A : Type 0} (f g : ℕ → A) → ((m : ℕ) → m < a .members → m ≢ parityMember a stripe → f m ≡ g (indexAt a stripe m))
+      → others (parityMember a stripe) (table (a .members) f) ≡ table (dataMembers a) g
+  others-of-parity f g h =
+      others-by-index f
+      ∙ table-ext (dataMembers a) (λ i. f (memberAt a stripe i)) g
+      (λ i l. h (memberAt a stripe i) (member-below a stripe i l) (member-not-parity a stripe i) ∙ ap g (index-of-member a stripe i))
 
   -- where every data member has its part of the data, the others of the parity combine to the parity
   pub parity-by-data : (bytes : List ℕ) → ((m : ℕ) → m < a .members → m ≢ parityMember a stripe → dataOf (formatAt a) (blockOf (formatAt a) bytes m) ≡ part (formatAt a .dataLength) content (indexAt a stripe m))
       → othersData (formatAt a) (a .members) (parityMember a stripe) bytes ≡ parityOf a content
-  unfolding othersData memberAt
-  parity-by-data bytes h = ap (combination (formatAt a .dataLength)) (split ∙ table-ext (dataMembers a) (λ i. dataOf (formatAt a) (blockOf (formatAt a) bytes (memberAt a stripe i))) (part (formatAt a .dataLength) content) each)
-    where
-      n-is : suc (dataMembers a) ≡ a .members
-      n-is = omega (arith, sound .array .few)
-
-      split : others (parityMember a stripe) (memberData (formatAt a) (a .members) bytes) ≡ table (dataMembers a) (λ i. dataOf (formatAt a) (blockOf (formatAt a) bytes (memberAt a stripe i)))
-      split =
-          ap (λ (n : ℕ). others (parityMember a stripe) (memberData (formatAt a) n bytes)) (sym n-is)
-          ∙ others-table (dataMembers a) (parityMember a stripe) (λ m. dataOf (formatAt a) (blockOf (formatAt a) bytes m)) (rw n-is (parity-below a stripe (omega (arith, sound .array .few))))
-
-      each : (i : ℕ) → i < dataMembers a → dataOf (formatAt a) (blockOf (formatAt a) bytes (memberAt a stripe i)) ≡ part (formatAt a .dataLength) content i
-      each i l = h (memberAt a stripe i) (member-below a stripe i l) (member-not-parity a stripe i) ∙ ap (part (formatAt a .dataLength) content) (index-of-member a stripe i)
+  unfolding othersData
+  parity-by-data bytes h =
+      ap (combination (formatAt a .dataLength)) (others-of-parity (λ m. dataOf (formatAt a) (blockOf (formatAt a) bytes m)) (part (formatAt a .dataLength) content) h)
 
   -- ---- the sealed stripe, block by block
 
@@ -97,16 +105,16 @@ module _ (a : Array) (stripe : ℕ) (content : List ℕ) (sound : SoundStripe a 
       go (yes p) = rw (eq-eqb m (parityMember a stripe) p) (length-combination (formatAt a .dataLength) (table (dataMembers a) (part (formatAt a .dataLength) content)))
       go (no p) = rw (ne-eqb m (parityMember a stripe) p) (enough (indexAt a stripe m) (index-below a stripe m h p))
 
-  length-sealed-block : (m : ℕ) → m < a .members → length (tagged a stripe m (sealedData a stripe content m)) ≡ (formatAt a .blockLength)
-  length-sealed-block m h = length-tagged a stripe m (sealedData a stripe content m) (length-sealed-data m h)
+  length-sealed-block : (m : ℕ) → m < a .members → length (tagged a stripe m (guardOfParts a content) (sealedData a stripe content m)) ≡ (formatAt a .blockLength)
+  length-sealed-block m h = length-tagged a stripe m (guardOfParts a content) (sealedData a stripe content m) (length-sealed-data m h)
 
   pub length-sealed : length (sealed a stripe content) ≡ stripeLength a
   unfolding sealed
-  length-sealed = length-joined (formatAt a .blockLength) (a .members) (λ m. tagged a stripe m (sealedData a stripe content m)) length-sealed-block
+  length-sealed = length-joined (formatAt a .blockLength) (a .members) (λ m. tagged a stripe m (guardOfParts a content) (sealedData a stripe content m)) length-sealed-block
 
-  pub block-of-sealed : (m : ℕ) → m < a .members → blockOf (formatAt a) (sealed a stripe content) m ≡ tagged a stripe m (sealedData a stripe content m)
+  pub block-of-sealed : (m : ℕ) → m < a .members → blockOf (formatAt a) (sealed a stripe content) m ≡ tagged a stripe m (guardOfParts a content) (sealedData a stripe content m)
   unfolding sealed
-  block-of-sealed m h = span-joined (formatAt a .blockLength) (a .members) (λ m. tagged a stripe m (sealedData a stripe content m)) m length-sealed-block h
+  block-of-sealed m h = span-joined (formatAt a .blockLength) (a .members) (λ m. tagged a stripe m (guardOfParts a content) (sealedData a stripe content m)) m length-sealed-block h
 
   -- ---- the loop over the members
 
@@ -169,7 +177,7 @@ module _ (a : Array) (stripe : ℕ) (content : List ℕ) (sound : SoundStripe a 
     pub data-of-written : (m : ℕ) → m < a .members → m ≢ parityMember a stripe → dataOf (formatAt a) (blockOf (formatAt a) (dataWritten a stripe content old) m) ≡ part (formatAt a .dataLength) content (indexAt a stripe m)
     data-of-written m h ne =
         ap (dataOf (formatAt a)) (block-of-written m h ∙ rw (ne-eqb m (parityMember a stripe) ne))
-        ∙ data-of-tagged a stripe m (part (formatAt a .dataLength) content (indexAt a stripe m)) (enough (indexAt a stripe m) (index-below a stripe m h ne))
+        ∙ data-of-tagged a stripe m (guardOfParts a content) (part (formatAt a .dataLength) content (indexAt a stripe m)) (enough (indexAt a stripe m) (index-below a stripe m h ne))
 
     pub parity-of-written : othersData (formatAt a) (a .members) (parityMember a stripe) (dataWritten a stripe content old) ≡ parityOf a content
     parity-of-written = parity-by-data (dataWritten a stripe content old) data-of-written
@@ -177,22 +185,36 @@ module _ (a : Array) (stripe : ℕ) (content : List ℕ) (sound : SoundStripe a 
     -- its guard, as the calls name what they got
     pub parity-guard : (p step all odd : ℕ) (written made guards : List ℕ) → p ≡ parityMember a stripe → written ≡ dataWritten a stripe content old
         → made ≡ othersData (formatAt a) (a .members) p written → step ≡ formatAt a .dataLength → guards ≡ guardsOf (formatAt a) 16 step content
-        → all ≡ combinedGuards (take (dataMembers a - 0) guards) → odd ≡ spare (formatAt a) (a .members) → bitXor all odd ≡ guard (formatAt a) made
-    parity-guard p step all odd written made guards ep ew em es eg ea eo =
-        let F = formatAt a in
-        let d = dataMembers a in
-        let whole : d - 0 ≡ d = omega arith in
-        let n-is : a .members ≡ suc d = omega (arith, sound .array .few) in
-        ap₂ bitXor (ea ∙ ap₂ (λ (k : ℕ) (l : List ℕ). combinedGuards (take k l)) whole (eg ∙ ap (λ (k : ℕ). guardsOf F 16 k content) es)) (eo ∙ ap (spare F) n-is)
-        ∙ parts-guard F (combines 1) content d (omega (arith, sound .array .many)) (omega arith)
-        ∙ ap (guard F) (sym (em ∙ ap₂ (othersData F (a .members)) ep ew ∙ parity-of-written))
+        → all ≡ combinedGuards (take (dataMembers a - 0) guards) → odd ≡ settled (formatAt a) (a .members)
+        → bitXor all odd ≡ guardDue a stripe p (guardOfParts a content) (guard (formatAt a) made)
+    parity-guard p step all odd written made guards ep ew em es eg ea eo = by-case (formatAt a .carries) refl
+      where
+        few : dataMembers a ≤ 16
+        few = omega (arith, sound .array .many)
+
+        first : all ≡ combinedGuards (take (dataMembers a) (guardsOf (formatAt a) 16 (formatAt a .dataLength) content))
+        first =
+            let whole : dataMembers a - 0 ≡ dataMembers a = omega arith in
+            ea ∙ ap₂ (λ (k : ℕ) (l : List ℕ). combinedGuards (take k l)) whole (eg ∙ ap (λ (k : ℕ). guardsOf (formatAt a) 16 k content) es)
+
+        by-case : (c : Bool) → formatAt a .carries ≡ c → bitXor all odd ≡ guardDue a stripe p (guardOfParts a content) (guard (formatAt a) made)
+        by-case true e =
+            ap (bitXor all) (eo ∙ settled-carried (formatAt a) (a .members) e) ∙ xor-zero-r all
+            ∙ first ∙ ap combinedGuards (first-guards (formatAt a) 16 (formatAt a .dataLength) content (dataMembers a) few)
+            ∙ sym (guard-carried a stripe p (guardOfParts a content) (guard (formatAt a) made) (carried-parity a stripe p e ep))
+        by-case false e =
+            let n-is : a .members ≡ suc (dataMembers a) = omega (arith, sound .array .few) in
+            ap₂ bitXor first (eo ∙ settled-plain (formatAt a) (a .members) e ∙ ap (spare (formatAt a)) n-is)
+            ∙ parts-guard (formatAt a) (combines (a .method) e) content (dataMembers a) few (omega arith)
+            ∙ ap (guard (formatAt a)) (sym (em ∙ ap₂ (othersData (formatAt a) (a .members)) ep ew ∙ parity-of-written))
+            ∙ sym (guard-own a stripe p (guardOfParts a content) (guard (formatAt a) made) (own-plain a stripe p e))
 
     -- ---- the whole
 
     pub sealed-by-steps : (made last : List ℕ) → made ≡ othersData (formatAt a) (a .members) (parityMember a stripe) (dataWritten a stripe content old)
-        → last ≡ withBlock (formatAt a) (dataWritten a stripe content old) (parityMember a stripe) (tagged a stripe (parityMember a stripe) made) → last ≡ sealed a stripe content
+        → last ≡ withBlock (formatAt a) (dataWritten a stripe content old) (parityMember a stripe) (tagged a stripe (parityMember a stripe) (guardOfParts a content) made) → last ≡ sealed a stripe content
     sealed-by-steps made last e f =
-        same-blocks (formatAt a) (a .members) last (sealed a stripe content) (ap length f ∙ length-sets whole ((formatAt a .blockLength) * p) (tagged a stripe p made) ∙ length-written) length-sealed
+        same-blocks (formatAt a) (a .members) last (sealed a stripe content) (ap length f ∙ length-sets whole ((formatAt a .blockLength) * p) (tagged a stripe p (guardOfParts a content) made) ∙ length-written) length-sealed
         (λ m l. ap (λ (x : List ℕ). blockOf (formatAt a) x m) f ∙ at m l (ℕ-discrete m p) ∙ sym (block-of-sealed m l))
       where
         whole : List ℕ
@@ -207,17 +229,21 @@ module _ (a : Array) (stripe : ℕ) (content : List ℕ) (sound : SoundStripe a 
         size : length made ≡ (formatAt a .dataLength)
         size = ap length made-is ∙ length-combination (formatAt a .dataLength) (table (dataMembers a) (part (formatAt a .dataLength) content))
 
-        at : (m : ℕ) → m < a .members → Dec (m ≡ p) → blockOf (formatAt a) (withBlock (formatAt a) whole p (tagged a stripe p made)) m ≡ tagged a stripe m (sealedData a stripe content m)
+        at : (m : ℕ) → m < a .members → Dec (m ≡ p) → blockOf (formatAt a) (withBlock (formatAt a) whole p (tagged a stripe p (guardOfParts a content) made)) m ≡ tagged a stripe m (guardOfParts a content) (sealedData a stripe content m)
         at m l (yes q) =
             rw (q, eq-eqb p p refl)
-            (block-written (formatAt a) whole p (tagged a stripe p made) (length-tagged a stripe p made size) (omega (arith, length-written, times-next (formatAt a .blockLength) p (a .members) (rw q at l))) ∙ ap (tagged a stripe p) made-is)
+            (block-written (formatAt a) whole p (tagged a stripe p (guardOfParts a content) made) (length-tagged a stripe p (guardOfParts a content) made size) (omega (arith, length-written, times-next (formatAt a .blockLength) p (a .members) (rw q at l))) ∙ ap (tagged a stripe p (guardOfParts a content)) made-is)
         at m l (no q) =
-            block-kept (formatAt a) whole p m (tagged a stripe p made) (length-tagged a stripe p made size) q ∙ block-of-written m l ∙ rw (ne-eqb m p q)
+            block-kept (formatAt a) whole p m (tagged a stripe p (guardOfParts a content) made) (length-tagged a stripe p (guardOfParts a content) made size) q ∙ block-of-written m l ∙ rw (ne-eqb m p q)
 
     -- the same, as the calls name what they got
-    pub sealed-by-calls : (p : ℕ) (written made last : List ℕ) → p ≡ parityMember a stripe → written ≡ dataWritten a stripe content old
-        → made ≡ othersData (formatAt a) (a .members) p written → last ≡ withBlock (formatAt a) written p (tagged a stripe p made) → last ≡ sealed a stripe content
-    sealed-by-calls p written made last ep ew em el = sealed-by-steps made last (em ∙ ap₂ (othersData (formatAt a) (a .members)) ep ew) (el ∙ ap₂ (λ (x : List ℕ) (k : ℕ). withBlock (formatAt a) x k (tagged a stripe k made)) ew ep)
+    pub sealed-by-calls : (p g : ℕ) (written made last : List ℕ) → p ≡ parityMember a stripe → written ≡ dataWritten a stripe content old
+        → made ≡ othersData (formatAt a) (a .members) p written → g ≡ guardDue a stripe p (guardOfParts a content) (guard (formatAt a) made)
+        → last ≡ withBlock (formatAt a) written p (taggedBy a stripe p g made) → last ≡ sealed a stripe content
+    sealed-by-calls p g written made last ep ew em eg el =
+        sealed-by-steps made last (em ∙ ap₂ (othersData (formatAt a) (a .members)) ep ew)
+        (el ∙ ap (withBlock (formatAt a) written p) (tagged-by a stripe p (guardOfParts a content) g made eg)
+        ∙ ap₂ (λ (x : List ℕ) (k : ℕ). withBlock (formatAt a) x k (tagged a stripe k (guardOfParts a content) made)) ew ep)
 
 -- ---- what a seal answers and leaves, case by case
 

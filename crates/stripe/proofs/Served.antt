@@ -14,12 +14,12 @@ use Rattle.layout.specs.Arrays.{blockRefusal}
 use Rattle.layout.specs.Places.{stripeOf, memberOf, placeNumbers, ownerRefusal}
 use Rattle.layout.specs.declared.Array.{Array}
 use Rattle.layout.proofs.Bijection.{place-refusal}
-use Rattle.format.specs.Formats.{Format}
+use Rattle.format.specs.Formats.{Format, guard}
 use Rattle.tag.specs.Blocks.{formatAt, dataOf}
 use Rattle.tag.specs.Tags.{standingAt, isBad, unchecked, kindOf}
 use Rattle.tag.proofs.Cases.{bad-range}
 use Rattle.stripe.specs.Tables.{span}
-use Rattle.stripe.specs.Stripes.{stripeLength, blockOf, othersGood, othersData}
+use Rattle.stripe.specs.Stripes.{stripeLength, blockOf, othersGood, othersData, guardsFit, recoverable}
 use Rattle.stripe.specs.Jobs.{unlessRefused, storedGood, storedBad, serveRefusal, servedData, readRefusal, readNumbers, readOut, Reads}
 use Rattle.tag.proofs.Tagged.{length-data}
 use Rattle.stripe.proofs.Rows.{lent-span, length-span}
@@ -53,6 +53,23 @@ bad-other a stripe skip bytes k h other bad = by-flag (othersGood a stripe skip 
     by-flag : (f : Bool) → othersGood a stripe skip bytes ≡ f → f ≡ false
     by-flag true e = let good = others-are-good a stripe skip bytes e k h other in cc
     by-flag false e = refl
+
+-- whether a block can be made again, by its two tests
+module _ (a : Array) (stripe member : ℕ) (bytes : List ℕ) where
+  abbrev fitting : Bool
+  fitting = guardsFit a stripe member bytes (guard (formatAt a) (othersData (formatAt a) (a .members) member bytes))
+
+  pub can-serve : othersGood a stripe member bytes ≡ true → fitting ≡ true → recoverable a stripe member bytes ≡ true
+  unfolding recoverable
+  can-serve g f = rw (g, f)
+
+  pub cannot-good : othersGood a stripe member bytes ≡ false → recoverable a stripe member bytes ≡ false
+  unfolding recoverable
+  cannot-good g = rw g
+
+  pub cannot-fit : othersGood a stripe member bytes ≡ true → fitting ≡ false → recoverable a stripe member bytes ≡ false
+  unfolding recoverable
+  cannot-fit g f = rw (g, f)
 
 -- ---- the block at a place
 
@@ -92,14 +109,14 @@ module _ (a : Array) (stripe member : ℕ) (bytes out : List ℕ) where
             let range = bad-range how bad in
             rw (ne-eqb how 0 (λ z. omega (arith, z, range .0)), ne-eqb how 8 (λ z. omega (arith, z, range .1)))
 
-        pub serve-rebuilt : (left : List ℕ) → othersGood a stripe member bytes ≡ true → left ≡ othersData (formatAt a) (a .members) member bytes → Serves (1 ∷ 0 ∷ 1 ∷ []) left
+        pub serve-rebuilt : (left : List ℕ) → recoverable a stripe member bytes ≡ true → left ≡ othersData (formatAt a) (a .members) member bytes → Serves (1 ∷ 0 ∷ 1 ∷ []) left
         unfolding serveRefusal servedData
         serve-rebuilt left good e =
             let l = eq-eqb (length bytes) (stripeLength a) long in
             let r = eq-eqb (length out) (formatAt a .dataLength) room in
             (rw (l, r, bad, good, kind-one), rw (l, r, bad, good) e)
 
-        pub serve-damaged : othersGood a stripe member bytes ≡ false → Serves (0 ∷ 9 ∷ 0 ∷ []) out
+        pub serve-damaged : recoverable a stripe member bytes ≡ false → Serves (0 ∷ 9 ∷ 0 ∷ []) out
         unfolding serveRefusal
         serve-damaged others = serve-refused 8 (rw (eq-eqb (length bytes) (stripeLength a) long, eq-eqb (length out) (formatAt a .dataLength) room, bad, others))
 
@@ -172,15 +189,25 @@ module _ (a : Array) (block : ℕ) (bytes out : List ℕ) where
 
     module _ (bad : storedBad a (stripeOf a block) (memberOf a block) bytes ≡ true) where
       pub read-rebuilt : ((m : ℕ) → m < a .members → m ≢ memberOf a block → storedGood a (stripeOf a block) m bytes ≡ true)
+          → guardsFit a (stripeOf a block) (memberOf a block) bytes (guard (formatAt a) (othersData (formatAt a) (a .members) (memberOf a block) bytes)) ≡ true
           → Reads a block bytes out (1 ∷ 0 ∷ 1 ∷ []) (othersData (formatAt a) (a .members) (memberOf a block) bytes)
-      read-rebuilt others =
+      read-rebuilt others fits =
           let s = stripeOf a block in
           let m = memberOf a block in
           let made = othersData (formatAt a) (a .members) m bytes in
-          read-served s m (1 ∷ 0 ∷ 1 ∷ []) made own (serve-rebuilt a s m bytes out long room bad made (good-others a s m bytes others) refl)
+          read-served s m (1 ∷ 0 ∷ 1 ∷ []) made own (serve-rebuilt a s m bytes out long room bad made (can-serve a s m bytes (good-others a s m bytes others) fits) refl)
 
       pub read-damaged : (k : ℕ) → k < a .members → k ≢ memberOf a block → storedGood a (stripeOf a block) k bytes ≡ false → Reads a block bytes out (0 ∷ 9 ∷ 0 ∷ []) out
       read-damaged k h other too =
           let s = stripeOf a block in
           let m = memberOf a block in
-          read-served s m (0 ∷ 9 ∷ 0 ∷ []) out own (serve-damaged a s m bytes out long room bad (bad-other a s m bytes k h other too))
+          read-served s m (0 ∷ 9 ∷ 0 ∷ []) out own (serve-damaged a s m bytes out long room bad (cannot-good a s m bytes (bad-other a s m bytes k h other too)))
+
+      -- or where the guards do not fit
+      pub read-unfit : ((m : ℕ) → m < a .members → m ≢ memberOf a block → storedGood a (stripeOf a block) m bytes ≡ true)
+          → guardsFit a (stripeOf a block) (memberOf a block) bytes (guard (formatAt a) (othersData (formatAt a) (a .members) (memberOf a block) bytes)) ≡ false
+          → Reads a block bytes out (0 ∷ 9 ∷ 0 ∷ []) out
+      read-unfit others unfit =
+          let s = stripeOf a block in
+          let m = memberOf a block in
+          read-served s m (0 ∷ 9 ∷ 0 ∷ []) out own (serve-damaged a s m bytes out long room bad (cannot-fit a s m bytes (good-others a s m bytes others) unfit))

@@ -12,7 +12,7 @@ use Rattle.tag.specs.Blocks.{dataOf, tagOf}
 use Rattle.tag.specs.Tags.{found}
 use Rattle.tag.proofs.Tagged.{data-of-joined, tag-of-joined}
 use Rattle.tag.proofs.Figures.{guard-stands}
-use Rattle.stripe.specs.Verdicts.{storedGuard}
+use Rattle.stripe.specs.Stripes.{storedGuard}
 
 -- in a whole block, the highest byte first
 pub stored-guard-stands : (block : List ℕ) → length block ≡ formatOf 1 .blockLength → storedGuard (formatOf 1) block ≡ getD block 512 0 * 256 + getD block 513 0
@@ -37,7 +37,7 @@ guards-of-zeros size full =
     let long : length (replicate {A = ℕ} size 0) ≡ 512 = length-replicate {A = ℕ} size 0 ∙ full in (
       ap (λ (tag : List ℕ). found (formatOf 1) tag .guard) (tag-of-joined (formatOf 1) (replicate size 0) wrongTag long),
       ap (guard (formatOf 1)) (data-of-joined (formatOf 1) (replicate size 0) wrongTag long)
-          ∙ ap (λ (k : ℕ). guard (formatOf 1) (replicate k 0)) full ∙ blank-none,
+          ∙ ap (λ (k : ℕ). guard (formatOf 1) (replicate k 0)) full ∙ blank-none 1 refl,
     )
 
 pub stored-guard-of-zeros : (storedGuard (formatOf 1) (mistagged 512) ≡ 0x1234) × (guard (formatOf 1) (dataOf (formatOf 1) (mistagged 512)) ≡ 0)

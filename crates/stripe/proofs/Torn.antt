@@ -2,7 +2,7 @@
 -- scrub finds the first byte of that end in both; the stored guards tell of one of them, and cannot of the other. A rebuild gives back a
 -- wrong block whose tag fits. Assumes nothing.
 use mathlib.Core.Path.{_≡_, refl, sym, ap, _∙_, subst}
-use mathlib.Core.Bool.{true}
+use mathlib.Core.Bool.{true, false}
 use mathlib.Core.List.{List, [], _∷_, _++_, map}
 use mathlib.Core.Logic.{_≢_}
 use Prim.Native.Nat.{ℕ, zero, suc, _+_, _<_}
@@ -33,15 +33,17 @@ use Rattle.tag.proofs.Numbers.{bytes-joined}
 use Rattle.tag.proofs.Tagged.{length-tagged, data-of-tagged, tagged-good, bytes-tagged}
 use Rattle.verdict.specs.Verdicts.{saysTorn, combinedGuards, quickNumbers}
 use Rattle.verdict.specs.Flags.{FirstNonzero}
+use Rattle.verdict.proofs.Behind.{first-inside}
 use Rattle.verdict.proofs.Quick.{sound-quick, quick-fits, quick-differs}
 use Rattle.stripe.specs.Tables.{joined}
-use Rattle.stripe.specs.Stripes.{stripeLength, blockOf, memberData, othersData, Whole}
+use Rattle.stripe.specs.Stripes.{stripeLength, blockOf, memberData, othersData, storedGuard, leftOf, Whole}
 use Rattle.stripe.specs.Jobs.{rebuildRefusal, rebuilt}
-use Rattle.stripe.specs.Verdicts.{storedGuard, scrubBlocks}
+use Rattle.stripe.specs.Verdicts.{scrubBlocks}
 use Rattle.stripe.proofs.Tables.{table-ext}
 use Rattle.stripe.proofs.Blocks.{span-joined, length-joined}
 use Rattle.stripe.proofs.Others.{good-others}
-use Rattle.stripe.proofs.Rebuilds.{rebuild-others}
+use Rattle.stripe.proofs.Rebuilds.{sources-rebuild}
+use Rattle.stripe.proofs.Carried.{fit-plain}
 use Rattle.stripe.proofs.Parity.{all-with-others}
 use Rattle.stripe.proofs.Restores.{rebuilt-data, rebuilt-good}
 use Rattle.stripe.proofs.Scrubs.{blocks-torn}
@@ -53,12 +55,16 @@ guard-zeros n =
     ∙ guard-linear (replicate n 0) (replicate n 0) refl ∙ xor-self (guard (replicate n 0))
 
 abbrev pub bench : Array
-bench = arrayOf 3 1 7
+bench = arrayOf 3 1 7 1
 
 -- its format is that of method 1
 narrowed : (l : List ℕ) → wide (formatAt bench) l ≡ guard l
 unfolding formatOf
 narrowed l = guard-t10 l
+
+plain : formatAt bench .carries ≡ false
+unfolding formatOf
+plain = refl
 
 bench-sound : Sound bench
 unfolding arrayRefusal
@@ -81,7 +87,7 @@ zerosThen zeros ending = replicate zeros 0 ++ ending
 
 abbrev pub tornBlocks : ℕ → ℕ → List ℕ → List (List ℕ)
 tornBlocks size zeros ending =
-    tagged bench 0 0 (zerosThen zeros ending) ∷ tagged bench 0 1 (replicate size 0) ∷ tagged bench 0 2 (replicate size 0) ∷ []
+    tagged bench 0 0 0 (zerosThen zeros ending) ∷ tagged bench 0 1 0 (replicate size 0) ∷ tagged bench 0 2 0 (replicate size 0) ∷ []
 
 module _ (size zeros x : ℕ) (rest : List ℕ) (data-size : size ≡ (formatAt bench .dataLength)) (fill : zeros + suc (length rest) ≡ size) (some : x ≢ 0) (bytes : Bytes (x ∷ rest)) where
   long : length (zerosThen zeros (x ∷ rest)) ≡ (formatAt bench .dataLength)
@@ -92,19 +98,19 @@ module _ (size zeros x : ℕ) (rest : List ℕ) (data-size : size ≡ (formatAt 
 
   combined : combination (formatAt bench .dataLength) (map (dataOf (formatAt bench)) (tornBlocks size zeros (x ∷ rest))) ≡ zerosThen zeros (x ∷ rest)
   combined =
-      with-zeros (formatAt bench .dataLength) (dataOf (formatAt bench) (tagged bench 0 0 (zerosThen zeros (x ∷ rest)))) (dataOf (formatAt bench) (tagged bench 0 1 (replicate size 0))) (dataOf (formatAt bench) (tagged bench 0 2 (replicate size 0)))
+      with-zeros (formatAt bench .dataLength) (dataOf (formatAt bench) (tagged bench 0 0 0 (zerosThen zeros (x ∷ rest)))) (dataOf (formatAt bench) (tagged bench 0 1 0 (replicate size 0))) (dataOf (formatAt bench) (tagged bench 0 2 0 (replicate size 0)))
       (ap length first ∙ long)
-      (data-of-tagged bench 0 1 (replicate size 0) zeros-long ∙ ap (λ (k : ℕ). replicate k 0) data-size)
-      (data-of-tagged bench 0 2 (replicate size 0) zeros-long ∙ ap (λ (k : ℕ). replicate k 0) data-size)
+      (data-of-tagged bench 0 1 0 (replicate size 0) zeros-long ∙ ap (λ (k : ℕ). replicate k 0) data-size)
+      (data-of-tagged bench 0 2 0 (replicate size 0) zeros-long ∙ ap (λ (k : ℕ). replicate k 0) data-size)
       ∙ first
     where
-      first : dataOf (formatAt bench) (tagged bench 0 0 (zerosThen zeros (x ∷ rest))) ≡ zerosThen zeros (x ∷ rest)
-      first = data-of-tagged bench 0 0 (zerosThen zeros (x ∷ rest)) long
+      first : dataOf (formatAt bench) (tagged bench 0 0 0 (zerosThen zeros (x ∷ rest))) ≡ zerosThen zeros (x ∷ rest)
+      first = data-of-tagged bench 0 0 0 (zerosThen zeros (x ∷ rest)) long
 
   all-good : (m : ℕ) → m < 3 → good bench 0 m (getD (tornBlocks size zeros (x ∷ rest)) m []) ≡ true
-  all-good zero h = tagged-good bench 0 0 (zerosThen zeros (x ∷ rest)) long (place 0 h) (lit< tt)
-  all-good (suc zero) h = tagged-good bench 0 1 (replicate size 0) zeros-long (place 1 h) (lit< tt)
-  all-good (suc (suc zero)) h = tagged-good bench 0 2 (replicate size 0) zeros-long (place 2 h) (lit< tt)
+  all-good zero h = tagged-good bench 0 0 0 (zerosThen zeros (x ∷ rest)) long (place 0 h) (lit< tt)
+  all-good (suc zero) h = tagged-good bench 0 1 0 (replicate size 0) zeros-long (place 1 h) (lit< tt)
+  all-good (suc (suc zero)) h = tagged-good bench 0 2 0 (replicate size 0) zeros-long (place 2 h) (lit< tt)
   all-good (suc (suc (suc m))) h = absurd (not-suc-le-zero (le-of-suc-le-suc (le-of-suc-le-suc (le-of-suc-le-suc h))))
 
   first-there : FirstNonzero (zerosThen zeros (x ∷ rest)) zeros
@@ -118,21 +124,21 @@ module _ (size zeros x : ℕ) (rest : List ℕ) (data-size : size ≡ (formatAt 
   pub torn-there : scrubBlocks bench 0 (tornBlocks size zeros (x ∷ rest)) ≡ saysTorn zeros
   torn-there =
       blocks-torn bench 0 (tornBlocks size zeros (x ∷ rest)) refl zeros .1
-      (all-good, subst (λ (l : List ℕ). FirstNonzero l zeros) (sym combined) first-there)
+      (all-good, first-inside (combination (formatAt bench .dataLength) (map (dataOf (formatAt bench)) (tornBlocks size zeros (x ∷ rest)))) (leftOf (formatAt bench) (map (storedGuard (formatAt bench)) (tornBlocks size zeros (x ∷ rest)))) zeros (subst (λ (l : List ℕ). FirstNonzero l zeros) (sym combined) first-there))
 
   whole : Whole bench (tornBlocks size zeros (x ∷ rest))
   whole = record { all-there = refl; long = each-long; bytes = each-bytes }
     where
       each-long : (i : ℕ) → i < 3 → length (getD (tornBlocks size zeros (x ∷ rest)) i []) ≡ (formatAt bench .blockLength)
-      each-long zero h = length-tagged bench 0 0 (zerosThen zeros (x ∷ rest)) long
-      each-long (suc zero) h = length-tagged bench 0 1 (replicate size 0) zeros-long
-      each-long (suc (suc zero)) h = length-tagged bench 0 2 (replicate size 0) zeros-long
+      each-long zero h = length-tagged bench 0 0 0 (zerosThen zeros (x ∷ rest)) long
+      each-long (suc zero) h = length-tagged bench 0 1 0 (replicate size 0) zeros-long
+      each-long (suc (suc zero)) h = length-tagged bench 0 2 0 (replicate size 0) zeros-long
       each-long (suc (suc (suc m))) h = absurd (not-suc-le-zero (le-of-suc-le-suc (le-of-suc-le-suc (le-of-suc-le-suc h))))
 
       each-bytes : (i : ℕ) → Bytes (getD (tornBlocks size zeros (x ∷ rest)) i [])
-      each-bytes zero = bytes-tagged bench 0 0 (zerosThen zeros (x ∷ rest)) (bytes-joined (replicate zeros 0) (x ∷ rest) (bytes-zeros zeros) bytes)
-      each-bytes (suc zero) = bytes-tagged bench 0 1 (replicate size 0) (bytes-zeros size)
-      each-bytes (suc (suc zero)) = bytes-tagged bench 0 2 (replicate size 0) (bytes-zeros size)
+      each-bytes zero = bytes-tagged bench 0 0 0 (zerosThen zeros (x ∷ rest)) (bytes-joined (replicate zeros 0) (x ∷ rest) (bytes-zeros zeros) bytes)
+      each-bytes (suc zero) = bytes-tagged bench 0 1 0 (replicate size 0) (bytes-zeros size)
+      each-bytes (suc (suc zero)) = bytes-tagged bench 0 2 0 (replicate size 0) (bytes-zeros size)
       each-bytes (suc (suc (suc m))) = λ k. lit< tt
 
   -- the stored guards combine to the guard of the ending
@@ -142,7 +148,7 @@ module _ (size zeros x : ℕ) (rest : List ℕ) (data-size : size ≡ (formatAt 
       let F = formatAt bench in
       let all = combinedGuards (map (storedGuard F) (tornBlocks size zeros (x ∷ rest))) in
       sym (ap (bitXor all) (spare-even F 4 refl) ∙ xor-zero-r all)
-      ∙ guards-combined bench 0 (tornBlocks size zeros (x ∷ rest)) bench-sound whole (other 1 (λ e. omega arith)) (other 3 (λ e. omega arith)) ∙ ap (wide F) combined ∙ narrowed (zerosThen zeros (x ∷ rest))
+      ∙ guards-combined bench 0 (tornBlocks size zeros (x ∷ rest)) bench-sound whole plain (other 1 (λ e. omega arith)) (other 3 (λ e. omega arith)) ∙ ap (wide F) combined ∙ narrowed (zerosThen zeros (x ∷ rest))
       ∙ run-joined 0 (replicate zeros 0) (x ∷ rest) ∙ ap (λ (r : ℕ). run r (x ∷ rest)) (guard-zeros zeros)
     where
       other : (k : ℕ) → 2 ≢ k → getD (scrubBlocks bench 0 (tornBlocks size zeros (x ∷ rest))) 0 0 ≢ k
@@ -157,7 +163,7 @@ module _ (size zeros x : ℕ) (rest : List ℕ) (data-size : size ≡ (formatAt 
   in-memory = length-joined (formatAt bench .blockLength) 3 (λ m. getD (tornBlocks size zeros (x ∷ rest)) m []) (whole .long)
 
   was-zero : dataOf (formatAt bench) (blockOf (formatAt bench) (joined (tornBlocks size zeros (x ∷ rest))) 1) ≡ replicate size 0
-  was-zero = ap (dataOf (formatAt bench)) (block-there 1 (lit< tt)) ∙ data-of-tagged bench 0 1 (replicate size 0) zeros-long
+  was-zero = ap (dataOf (formatAt bench)) (block-there 1 (lit< tt)) ∙ data-of-tagged bench 0 1 0 (replicate size 0) zeros-long
 
   made-of-others : othersData (formatAt bench) 3 1 (joined (tornBlocks size zeros (x ∷ rest))) ≡ zerosThen zeros (x ∷ rest)
   made-of-others =
@@ -174,7 +180,13 @@ module _ (size zeros x : ℕ) (rest : List ℕ) (data-size : size ≡ (formatAt 
   rebuilt-wrong =
       let bytes = joined (tornBlocks size zeros (x ∷ rest)) in
       let here = place 1 (lit< tt) in (
-        rebuild-others bench 0 1 bytes here in-memory true (good-others bench 0 1 bytes (λ m h ne. ap (good bench 0 m) (block-there m h) ∙ all-good m h)),
+        sources-rebuild bench 0 1 bytes
+            (record {
+              place = here;
+              long = in-memory;
+              others = good-others bench 0 1 bytes (λ m h ne. ap (good bench 0 m) (block-there m h) ∙ all-good m h);
+              fits = fit-plain bench 0 1 bytes (wide (formatAt bench) (othersData (formatAt bench) 3 1 bytes)) plain;
+            }),
         was-zero,
         rebuilt-data bench 0 1 bytes here in-memory ∙ made-of-others,
         rebuilt-good bench 0 1 bytes here in-memory (lit< tt),

@@ -2,11 +2,13 @@
 -- the block and the parity are as sealed, whatever the other members are. Assumes nothing.
 use mathlib.Core.Path.{_≡_, refl, sym, ap, ap₂, _∙_, subst}
 use mathlib.Core.Logic.{_≢_}
+use mathlib.Core.Bool.{Bool, true, false}
 use mathlib.Core.List.{List}
 use Prim.Native.Nat.{ℕ, _*_, _<_}
 use native.Mathlib.Decide.{ℕ-discrete}
 use native.Mathlib.Omega.{arith}
 use borrow.Author.Tests.{eq-eqb, ne-eqb}
+use lib.Bits.{bitXor}
 use lib.ListN.{length}
 use lib.Seq.{length-sets}
 use Rattle.xor.specs.Xors.{xors}
@@ -18,17 +20,24 @@ use Rattle.layout.proofs.Ranges.{sound-block}
 use Rattle.layout.proofs.Members.{parity-below, member-below, index-of-member, member-of-index}
 use Rattle.layout.proofs.Blocks.{index-in-stripe, stripe-in-array}
 use Rattle.layout.proofs.Bijection.{parity-no-block}
+use Rattle.format.specs.Formats.{guard}
 use Rattle.format.proofs.Sizes.{times-next}
 use Rattle.tag.specs.Blocks.{formatAt, dataOf}
-use Rattle.tag.specs.Tags.{tagged}
-use Rattle.stripe.specs.Tables.{part}
-use Rattle.stripe.specs.Stripes.{blockOf}
-use Rattle.stripe.specs.Jobs.{parityOf, sealedData, sealed, updateRefusal, updateBytes}
+use Rattle.tag.specs.Tags.{carried, tagged}
+use Rattle.tag.proofs.Guards.{carried-parity, carried-carries, own-data as own-holds, guard-own, guard-carried}
+use Rattle.tag.proofs.Tagged.{tagged-own}
+use Rattle.verdict.specs.Verdicts.{combinedGuards}
+use Rattle.stripe.specs.Tables.{table, part}
+use Rattle.stripe.specs.Stripes.{blockOf, storedGuard}
+use Rattle.stripe.specs.Jobs.{parityOf, guardOfParts, sealedData, sealed, updateRefusal, updateBytes}
 use Rattle.stripe.proofs.Blocks.{same-blocks}
 use Rattle.stripe.proofs.Seals.{length-sealed, block-of-sealed}
-use Rattle.stripe.proofs.Sealed.{sealed-good, sealed-data}
-use Rattle.stripe.proofs.Updates.{replace-taken}
-use Rattle.stripe.proofs.Updated.{update-keeps-length, update-own, update-parity, update-keeps-others}
+use Rattle.stripe.proofs.Sealed.{sealed-good, sealed-data, sealed-guard}
+use Rattle.stripe.proofs.Updates.{replace-taken, movedGuard}
+use Rattle.stripe.proofs.Tables.{length-table, getD-table}
+use Rattle.stripe.proofs.OneEntry.{one-entry-set}
+use Rattle.stripe.proofs.Carried.{guards-set}
+use Rattle.stripe.proofs.Updated.{movedData, update-keeps-length, update-own, update-parity, update-keeps-others}
 use Rattle.stripe.proofs.Contents.{withPart, part-new, part-kept, parity-moved}
 
 -- the content with the block's part replaced
@@ -89,7 +98,39 @@ module _ (a : Array) (block : ℕ) (content new : List ℕ) (sound : SoundBlock 
 
   module _ (bytes : List ℕ) (done : updateRefusal a block (length new) bytes ≡ 0)
       (own-sealed : blockOf (formatAt a) bytes own ≡ blockOf (formatAt a) (sealed a stripe content) own)
-      (parity-sealed : blockOf (formatAt a) bytes parity ≡ blockOf (formatAt a) (sealed a stripe content) parity) where
+      (parity-sealed : blockOf (formatAt a) bytes parity ≡ blockOf (formatAt a) (sealed a stripe content) parity) (small : a .volume < 256) where
+    -- what the parity carries is what the new parts' guards combine to
+    guards-moved : formatAt a .carries ≡ true → movedGuard a stripe own new bytes ≡ guardOfParts a later
+    guards-moved carrying =
+        let F = formatAt a in
+        let i = indexOf a block in
+        let size-of = F .dataLength in
+        let before : ℕ → ℕ = λ k. guard F (part size-of content k) in
+        let now : ℕ → ℕ = λ k. guard F (part size-of later k) in
+        let carried-guard : storedGuard F (blockOf F bytes parity) ≡ guardOfParts a content =
+        ap (storedGuard F) parity-sealed ∙ sealed-guard a stripe content in-array long small parity parity-in
+        ∙ guard-carried a stripe parity (guardOfParts a content) (guard F (sealedData a stripe content parity)) (carried-parity a stripe parity carrying refl) in
+        let own-guard : storedGuard F (blockOf F bytes own) ≡ before i =
+        ap (storedGuard F) own-sealed ∙ sealed-guard a stripe content in-array long small own own-in
+        ∙ guard-own a stripe own (guardOfParts a content) (guard F (sealedData a stripe content own)) (own-holds a stripe own (parity-no-block a block)) ∙ ap (guard F) (own-data content) in
+        let moved-part : now i ≡ guard F new =
+        ap (guard F) (part-new size-of content i new size (omega (arith, times-next size-of i (dataMembers a) index-in))) in
+        ap₂ (λ (x y : ℕ). bitXor (bitXor x y) (guard F new)) carried-guard own-guard
+        ∙ sym (ap combinedGuards (one-entry-set (dataMembers a) i now before index-in (λ k h ne. ap (guard F) (part-kept size-of content i new size k ne)))
+        ∙ guards-set (table (dataMembers a) before) i (now i) (rw length-table index-in)
+        ∙ ap₂ (λ (x y : ℕ). bitXor (bitXor (combinedGuards (table (dataMembers a) before)) x) y) (getD-table (dataMembers a) before 0 i index-in) moved-part)
+
+    -- a tag of the new content, whatever is combined in it, unless that is carried
+    retagged : (k x : ℕ) (l : List ℕ) → (carried a stripe k ≡ true → x ≡ guardOfParts a later) → tagged a stripe k x l ≡ tagged a stripe k (guardOfParts a later) l
+    retagged k x l h = by-case (carried a stripe k) refl
+      where
+        by-case : (c : Bool) → carried a stripe k ≡ c → tagged a stripe k x l ≡ tagged a stripe k (guardOfParts a later) l
+        by-case true e = ap (λ (g : ℕ). tagged a stripe k g l) (h e)
+        by-case false e = tagged-own a stripe k x (guardOfParts a later) l e
+
+    not-carried : (k : ℕ) → k ≢ parity → (x : ℕ) → carried a stripe k ≡ true → x ≡ guardOfParts a later
+    not-carried k ne x e = let z : true ≡ false = sym e ∙ own-holds a stripe k ne in let o : _≡_ {A = ℕ} 0 1 = cc in absurd (omega arith)
+
     data-sealed : (m : ℕ) → m < a .members → blockOf (formatAt a) bytes m ≡ blockOf (formatAt a) (sealed a stripe content) m
         → dataOf (formatAt a) (blockOf (formatAt a) bytes m) ≡ sealedData a stripe content m
     data-sealed m here same = ap (dataOf (formatAt a)) same ∙ sealed-data a stripe content in-array long m here
@@ -100,18 +141,23 @@ module _ (a : Array) (block : ℕ) (content new : List ℕ) (sound : SoundBlock 
     update-keeps-sealed m here same = by-member (ℕ-discrete m own) (ℕ-discrete m parity) ∙ sym (block-of-sealed a stripe later in-array still-long m here)
       where
         AsSealed : ℕ → Type 0
-        AsSealed k = blockOf (formatAt a) (updateBytes a block new bytes) k ≡ tagged a stripe k (sealedData a stripe later k)
+        AsSealed k = blockOf (formatAt a) (updateBytes a block new bytes) k ≡ tagged a stripe k (guardOfParts a later) (sealedData a stripe later k)
 
         by-member : Dec (m ≡ own) → Dec (m ≡ parity) → AsSealed m
-        by-member (yes e) p = subst AsSealed (sym e) (update-own a block new bytes done ∙ ap (tagged a stripe own) (sym own-new))
+        by-member (yes e) p =
+            subst AsSealed (sym e)
+            (update-own a block new bytes done ∙ retagged own (movedGuard a stripe own new bytes) new (not-carried own (parity-no-block a block) (movedGuard a stripe own new bytes))
+            ∙ ap (tagged a stripe own (guardOfParts a later)) (sym own-new))
         by-member (no o) (yes e) =
             subst AsSealed (sym e)
             (update-parity a block new bytes done
-            ∙ ap (tagged a stripe parity)
+            ∙ retagged parity (movedGuard a stripe own new bytes) (movedData a stripe own new bytes) (λ c. guards-moved (carried-carries a stripe parity c))
+            ∙ ap (tagged a stripe parity (guardOfParts a later))
             (ap₂ (λ (x y : List ℕ). xors (xors x y) new) (data-sealed parity parity-in parity-sealed) (data-sealed own own-in own-sealed) ∙ sym parity-new))
         by-member (no o) (no p) =
             update-keeps-others a block new bytes done m o p ∙ same ∙ block-of-sealed a stripe content in-array long m here
-            ∙ ap (tagged a stripe m) (sym (other-kept m o p))
+            ∙ retagged m (guardOfParts a content) (sealedData a stripe content m) (not-carried m p (guardOfParts a content))
+            ∙ ap (tagged a stripe m (guardOfParts a later)) (sym (other-kept m o p))
 
 -- ---- the sealed stripe: an update of it is done, and leaves the sealed stripe of the new content
 
@@ -136,4 +182,4 @@ module _ (a : Array) (block : ℕ) (content new : List ℕ) (sound : SoundBlock 
       same-blocks (formatAt a) (a .members) (updateBytes a block new before) (sealed a s later)
       (update-keeps-length a block new before sealed-takes-update ∙ length-sealed a s content whole long)
       (length-sealed a s later whole (still-long a block content new sound long size))
-      (λ m here. update-keeps-sealed a block content new sound long size before sealed-takes-update refl refl m here refl)
+      (λ m here. update-keeps-sealed a block content new sound long size before sealed-takes-update refl refl small m here refl)

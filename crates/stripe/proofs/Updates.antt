@@ -2,11 +2,12 @@
 -- Assumes nothing.
 use mathlib.Core.Path.{_≡_, refl, sym, ap, ap₂, _∙_}
 use mathlib.Core.Logic.{_≢_}
-use mathlib.Core.Bool.{Bool, true, false, not, _&&_}
+use mathlib.Core.Bool.{Bool, true, false, not, cond, _&&_}
 use mathlib.Core.List.{List, [], _∷_}
 use Prim.Native.Nat.{ℕ, zero, suc, _+_, _-_, _*_, _≤_}
 use native.Mathlib.Omega.{arith}
 use borrow.Author.Tests.{eq-eqb, ne-eqb, eqb-true}
+use lib.Bits.{bitXor}
 use lib.Dec.{eqb}
 use lib.ListN.{length, take, drop}
 use lib.Seq.{sets, length-sets, sets-eq, take-at, take-all}
@@ -19,12 +20,13 @@ use Rattle.layout.specs.declared.Array.{Array}
 use Rattle.layout.proofs.Answers.{refuse-none}
 use Rattle.layout.proofs.Ranges.{place-sound, sound-place}
 use Rattle.layout.proofs.Members.{parity-below}
-use Rattle.format.specs.Formats.{Format}
+use Rattle.format.specs.Formats.{Format, guard}
 use Rattle.format.proofs.Sizes.{times-next}
 use Rattle.tag.specs.Blocks.{formatAt, dataOf}
-use Rattle.tag.specs.Tags.{tagged}
-use Rattle.tag.proofs.Tagged.{length-data}
-use Rattle.stripe.specs.Stripes.{stripeLength, blockOf}
+use Rattle.tag.specs.Tags.{guardDue, taggedBy, tagged}
+use Rattle.tag.proofs.Guards.{own-data, own-plain, carried-parity, guard-own, guard-carried}
+use Rattle.tag.proofs.Tagged.{length-data, tagged-by}
+use Rattle.stripe.specs.Stripes.{stripeLength, blockOf, storedGuard}
 use Rattle.stripe.specs.Jobs.{unlessRefused, withBlock, storedGood, replaceRefusal, replaced, updateRefusal, updateBytes}
 use Rattle.stripe.specs.Accepted.{Replaceable}
 use Rattle.stripe.proofs.Rows.{length-span}
@@ -140,23 +142,48 @@ module _ (a : Array) (stripe member : ℕ) (new bytes : List ℕ) where
       × (left ≡ unlessRefused (replaceRefusal a stripe member (length new) bytes) (replaced a stripe member new bytes) bytes)
 
   -- where the first block is written the second still lies in the stripe, and its data are long enough
-  pub second-inside : (parity : ℕ) (moved once : List ℕ) → Inside a stripe member (length new) bytes → parity ≡ parityMember a stripe
-      → moved ≡ xors (xors (dataOf (formatAt a) (blockOf (formatAt a) bytes parity)) (dataOf (formatAt a) (blockOf (formatAt a) bytes member))) new → once ≡ withBlock (formatAt a) bytes member (tagged a stripe member new)
+  pub second-inside : (parity : ℕ) (moved once written : List ℕ) → Inside a stripe member (length new) bytes → parity ≡ parityMember a stripe
+      → moved ≡ xors (xors (dataOf (formatAt a) (blockOf (formatAt a) bytes parity)) (dataOf (formatAt a) (blockOf (formatAt a) bytes member))) new → once ≡ withBlock (formatAt a) bytes member written
       → (length moved ≡ (formatAt a .dataLength)) × ((formatAt a .blockLength) * parity + (formatAt a .blockLength) ≤ length once)
-  second-inside parity moved once h p m e =
+  second-inside parity moved once written h p m e =
       let room : (formatAt a .blockLength) * parity + (formatAt a .blockLength) ≤ length bytes = rw p (h .parity) in
-      let kept : length once ≡ length bytes = ap length e ∙ length-sets bytes ((formatAt a .blockLength) * member) (tagged a stripe member new) in
+      let kept : length once ≡ length bytes = ap length e ∙ length-sets bytes ((formatAt a .blockLength) * member) written in
       (ap length m ∙ length-moved (formatAt a) parity bytes (dataOf (formatAt a) (blockOf (formatAt a) bytes member)) new room, omega (arith, room, kept))
 
   pub replace-refused : (number : ℕ) → number ≡ replaceRefusal a stripe member (length new) bytes → number ≢ 0 → Replaces number bytes
   replace-refused number e h = (e, rw (← e, ne-eqb number 0 h))
 
-  pub replace-done : (number parity : ℕ) (moved once twice : List ℕ) → number ≡ replaceRefusal a stripe member (length new) bytes → number ≡ 0
-      → parity ≡ parityMember a stripe → moved ≡ xors (xors (dataOf (formatAt a) (blockOf (formatAt a) bytes parity)) (dataOf (formatAt a) (blockOf (formatAt a) bytes member))) new
-      → once ≡ withBlock (formatAt a) bytes member (tagged a stripe member new) → twice ≡ withBlock (formatAt a) once parity (tagged a stripe parity moved)
+  -- the guard that a parity carries afterwards
+  abbrev pub movedGuard : ℕ
+  movedGuard =
+      bitXor (bitXor (storedGuard (formatAt a) (blockOf (formatAt a) bytes (parityMember a stripe))) (storedGuard (formatAt a) (blockOf (formatAt a) bytes member)))
+      (guard (formatAt a) new)
+
+  pub replace-done : (number parity g h : ℕ) (moved once twice : List ℕ) → number ≡ replaceRefusal a stripe member (length new) bytes → number ≡ 0
+      → member ≢ parityMember a stripe → parity ≡ parityMember a stripe
+      → moved ≡ xors (xors (dataOf (formatAt a) (blockOf (formatAt a) bytes parity)) (dataOf (formatAt a) (blockOf (formatAt a) bytes member))) new
+      → g ≡ guard (formatAt a) new
+      → h ≡ cond (formatAt a .carries) (bitXor (bitXor (storedGuard (formatAt a) (blockOf (formatAt a) bytes parity)) (storedGuard (formatAt a) (blockOf (formatAt a) bytes member))) g) (guard (formatAt a) moved)
+      → once ≡ withBlock (formatAt a) bytes member (taggedBy a stripe member g new) → twice ≡ withBlock (formatAt a) once parity (taggedBy a stripe parity h moved)
       → Replaces 0 twice
   unfolding replaced
-  replace-done number parity moved once twice e z p m e₁ e₂ = (sym z ∙ e, rw (← e, z, e₂, e₁, m, p))
+  replace-done number parity g h moved once twice e z apart p m eg eh e₁ e₂ =
+      let F = formatAt a in
+      let first : once ≡ withBlock F bytes member (tagged a stripe member movedGuard new) =
+      e₁ ∙ ap (withBlock F bytes member) (tagged-by a stripe member movedGuard g new (eg ∙ sym (guard-own a stripe member movedGuard (guard F new) (own-data a stripe member apart)))) in
+      let second : twice ≡ withBlock F once parity (tagged a stripe parity movedGuard moved) =
+      e₂ ∙ ap (withBlock F once parity) (tagged-by a stripe parity movedGuard h moved (by-case (F .carries) refl)) in
+      (sym z ∙ e, rw (← e, z, second, first, m, p))
+    where
+      carrying : ℕ
+      carrying = bitXor (bitXor (storedGuard (formatAt a) (blockOf (formatAt a) bytes parity)) (storedGuard (formatAt a) (blockOf (formatAt a) bytes member))) g
+
+      by-case : (c : Bool) → formatAt a .carries ≡ c → h ≡ guardDue a stripe parity movedGuard (guard (formatAt a) moved)
+      by-case true c =
+          eh ∙ ap (λ (b : Bool). cond b carrying (guard (formatAt a) moved)) c
+          ∙ ap₂ (λ (k x : ℕ). bitXor (bitXor (storedGuard (formatAt a) (blockOf (formatAt a) bytes k)) (storedGuard (formatAt a) (blockOf (formatAt a) bytes member))) x) p eg
+          ∙ sym (guard-carried a stripe parity movedGuard (guard (formatAt a) moved) (carried-parity a stripe parity c p))
+      by-case false c = eh ∙ ap (λ (b : Bool). cond b carrying (guard (formatAt a) moved)) c ∙ sym (guard-own a stripe parity movedGuard (guard (formatAt a) moved) (own-plain a stripe parity c))
 
 -- ---- a block of the array
 

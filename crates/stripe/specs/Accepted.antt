@@ -8,7 +8,8 @@ use Rattle.layout.specs.Arrays.{dataMembers, stripeRefusal}
 use Rattle.layout.specs.Places.{parityMember, ownerRefusal}
 use Rattle.layout.specs.declared.Array.{Array}
 use Rattle.tag.specs.Blocks.{formatAt}
-use Rattle.stripe.specs.Stripes.{stripeLength, othersGood}
+use Rattle.format.specs.Formats.{guard}
+use Rattle.stripe.specs.Stripes.{stripeLength, othersGood, othersData, guardsFit}
 use Rattle.stripe.specs.Jobs.{storedGood}
 
 -- a seal
@@ -22,6 +23,7 @@ pub record Sources (a : Array) (stripe member : ℕ) (bytes : List ℕ) : Type 0
   pub place : ownerRefusal a stripe member ≡ 0
   pub long : length bytes ≡ stripeLength a
   pub others : othersGood a stripe member bytes ≡ true
+  pub fits : guardsFit a stripe member bytes (guard (formatAt a) (othersData (formatAt a) (a .members) member bytes)) ≡ true
 
 -- the replacement of the data of the block at a place
 pub record Replaceable (a : Array) (stripe member newBytes : ℕ) (bytes : List ℕ) : Type 0 where

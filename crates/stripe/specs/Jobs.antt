@@ -4,6 +4,7 @@ use Prim.Native.Nat.{ℕ, _*_}
 use mathlib.Core.Path.{_≡_}
 use mathlib.Core.Bool.{Bool, not, cond, _&&_}
 use mathlib.Core.List.{List, [], _∷_}
+use lib.Bits.{bitXor}
 use lib.Dec.{eqb}
 use lib.ListN.{length}
 use lib.Seq.{sets}
@@ -12,11 +13,12 @@ use Rattle.layout.specs.Answers.{refuse, after, answer}
 use Rattle.layout.specs.Arrays.{dataMembers, stripeRefusal, blockRefusal}
 use Rattle.layout.specs.Places.{parityMember, stripeOf, memberOf, indexAt, isParity, ownerRefusal}
 use Rattle.layout.specs.declared.Array.{Array}
-use Rattle.format.specs.Formats.{Format}
+use Rattle.format.specs.Formats.{Format, guard}
 use Rattle.tag.specs.Blocks.{formatAt, dataOf}
 use Rattle.tag.specs.Tags.{standingAt, good, bad, kindOf, tagged}
 use Rattle.stripe.specs.Tables.{table, joined, part}
-use Rattle.stripe.specs.Stripes.{stripeLength, blockOf, othersGood, othersData}
+use Rattle.verdict.specs.Verdicts.{combinedGuards}
+use Rattle.stripe.specs.Stripes.{stripeLength, blockOf, othersData, storedGuard, othersGuards, recoverable}
 use Rattle.stripe.specs.declared.Reading.{Reading}
 use Rattle.stripe.specs.declared.Reading.the-variants.{Refused, Stored, Rebuilt, Unchecked}
 
@@ -34,20 +36,23 @@ unfoldable pub sealRefusal : Array → ℕ → ℕ → ℕ → ℕ
 sealRefusal a stripe dataBytes stripeBytes =
     after (stripeRefusal a stripe) (refuse (not (eqb dataBytes ((formatAt a .dataLength) * dataMembers a) && eqb stripeBytes (stripeLength a))) 6 0)
 
--- the parity of the data, and the data that a member gets
+-- the parity of the data, what the guards of its parts combine to, and the data that a member gets
 abbrev pub parityOf : Array → List ℕ → List ℕ
 parityOf a bytes = combination (formatAt a .dataLength) (table (dataMembers a) (part (formatAt a .dataLength) bytes))
+
+abbrev pub guardOfParts : Array → List ℕ → ℕ
+guardOfParts a bytes = combinedGuards (table (dataMembers a) (λ i. guard (formatAt a) (part (formatAt a .dataLength) bytes i)))
 
 abbrev pub sealedData : Array → ℕ → List ℕ → ℕ → List ℕ
 sealedData a stripe bytes member = cond (isParity a stripe member) (parityOf a bytes) (part (formatAt a .dataLength) bytes (indexAt a stripe member))
 
 unfoldable pub sealed : Array → ℕ → List ℕ → List ℕ
-sealed a stripe bytes = joined (table (a .members) (λ m. tagged a stripe m (sealedData a stripe bytes m)))
+sealed a stripe bytes = joined (table (a .members) (λ m. tagged a stripe m (guardOfParts a bytes) (sealedData a stripe bytes m)))
 
 unfoldable pub sealBytes : Array → ℕ → List ℕ → List ℕ → List ℕ
 sealBytes a stripe bytes old = unlessRefused (sealRefusal a stripe (length bytes) (length old)) (sealed a stripe bytes) old
 
--- ---- read: a block's data, verified; stored, or rebuilt from the other members where the block is bad and they are good; the data of an
+-- ---- read: a block's data, verified; stored, or rebuilt from the other members where the block is bad and they serve for it; the data of an
 -- unchecked block as they stand
 
 abbrev pub storedGood : Array → ℕ → ℕ → List ℕ → Bool
@@ -60,7 +65,7 @@ storedBad a stripe member bytes = bad a stripe member (blockOf (formatAt a) byte
 unfoldable pub serveRefusal : Array → ℕ → ℕ → List ℕ → ℕ → ℕ
 serveRefusal a stripe member bytes outBytes =
     refuse (not (eqb (length bytes) (stripeLength a) && eqb outBytes (formatAt a .dataLength))) 6
-    (refuse (storedBad a stripe member bytes && not (othersGood a stripe member bytes)) 9 0)
+    (refuse (storedBad a stripe member bytes && not (recoverable a stripe member bytes)) 9 0)
 
 unfoldable pub servedData : Array → ℕ → ℕ → List ℕ → List ℕ
 servedData a stripe member bytes = cond (storedBad a stripe member bytes) (othersData (formatAt a) (a .members) member bytes) (dataOf (formatAt a) (blockOf (formatAt a) bytes member))
@@ -92,16 +97,18 @@ Reads a block bytes out numbers left = (numbers ≡ readNumbers a block bytes (l
 unfoldable pub rebuildRefusal : Array → ℕ → ℕ → List ℕ → ℕ
 rebuildRefusal a stripe member bytes =
     after (ownerRefusal a stripe member)
-    (refuse (not (eqb (length bytes) (stripeLength a))) 6 (refuse (not (othersGood a stripe member bytes)) 9 0))
+    (refuse (not (eqb (length bytes) (stripeLength a))) 6 (refuse (not (recoverable a stripe member bytes)) 9 0))
 
 -- the stripe with a member's block made from the others
 unfoldable pub rebuilt : Array → ℕ → ℕ → List ℕ → List ℕ
-rebuilt a stripe member bytes = withBlock (formatAt a) bytes member (tagged a stripe member (othersData (formatAt a) (a .members) member bytes))
+rebuilt a stripe member bytes =
+    withBlock (formatAt a) bytes member
+    (tagged a stripe member (othersGuards (formatAt a) (a .members) member bytes) (othersData (formatAt a) (a .members) member bytes))
 
 unfoldable pub rebuildBytes : Array → ℕ → ℕ → List ℕ → List ℕ
 rebuildBytes a stripe member bytes = unlessRefused (rebuildRefusal a stripe member bytes) (rebuilt a stripe member bytes) bytes
 
--- ---- update: a block's data replaced, and the parity brought along; no other member is looked at
+-- ---- update: a block's data replaced, and the parity and the guard that it may carry brought along; no other member is looked at
 
 -- of the block at a place: refusals 6 and 9, and the stripe with the new data
 unfoldable pub replaceRefusal : Array → ℕ → ℕ → ℕ → List ℕ → ℕ
@@ -111,9 +118,11 @@ replaceRefusal a stripe member newBytes bytes =
 
 unfoldable pub replaced : Array → ℕ → ℕ → List ℕ → List ℕ → List ℕ
 replaced a stripe member new bytes =
+    let F = formatAt a in
     let parity = parityMember a stripe in
-    let parityData = xors (xors (dataOf (formatAt a) (blockOf (formatAt a) bytes parity)) (dataOf (formatAt a) (blockOf (formatAt a) bytes member))) new in
-    withBlock (formatAt a) (withBlock (formatAt a) bytes member (tagged a stripe member new)) parity (tagged a stripe parity parityData)
+    let parityData = xors (xors (dataOf F (blockOf F bytes parity)) (dataOf F (blockOf F bytes member))) new in
+    let guards = bitXor (bitXor (storedGuard F (blockOf F bytes parity)) (storedGuard F (blockOf F bytes member))) (guard F new) in
+    withBlock F (withBlock F bytes member (tagged a stripe member guards new)) parity (tagged a stripe parity guards parityData)
 
 unfoldable pub updateRefusal : Array → ℕ → ℕ → List ℕ → ℕ
 updateRefusal a block newBytes bytes = after (blockRefusal a block) (replaceRefusal a (stripeOf a block) (memberOf a block) newBytes bytes)

@@ -1,18 +1,22 @@
 -- Steps of the code, for the contracts of private functions: no promise of a public call and no theorem rests on these definitions.
 -- Assumes nothing.
 use Prim.Native.Nat.{ℕ}
-use mathlib.Core.Bool.{cond}
+use mathlib.Core.Bool.{not, cond}
 use mathlib.Core.List.{List}
-use Rattle.layout.specs.Places.{indexAt, isParity}
+use lib.Dec.{eqb}
+use lib.ListN.{length}
+use Rattle.layout.specs.Answers.{refuse, after}
+use Rattle.layout.specs.Places.{indexAt, isParity, ownerRefusal}
 use Rattle.layout.specs.declared.Array.{Array}
 use Rattle.tag.specs.Blocks.{formatAt}
 use Rattle.tag.specs.Tags.{standingAt, tagged}
 use Rattle.stripe.specs.Tables.{table, joined, part}
-use Rattle.stripe.specs.Stripes.{blockOf}
+use Rattle.stripe.specs.Stripes.{stripeLength, blockOf, othersGood}
+use Rattle.stripe.specs.Jobs.{guardOfParts}
 
 -- a data member's block, from its part of the data
 abbrev pub dataBlock : Array → ℕ → List ℕ → ℕ → List ℕ
-dataBlock a stripe bytes member = tagged a stripe member (part (formatAt a .dataLength) bytes (indexAt a stripe member))
+dataBlock a stripe bytes member = tagged a stripe member (guardOfParts a bytes) (part (formatAt a .dataLength) bytes (indexAt a stripe member))
 
 -- a stripe with the blocks of its data members written, and the parity's block as it was
 unfoldable pub dataWritten : Array → ℕ → List ℕ → List ℕ → List ℕ
@@ -22,3 +26,9 @@ dataWritten a stripe bytes old =
 -- how the members of a stripe in memory stand
 unfoldable pub standings : Array → ℕ → List ℕ → List ℕ
 standings a stripe bytes = table (a .members) (λ m. standingAt a stripe m (blockOf (formatAt a) bytes m))
+
+-- the refusals of a rebuild before the data are made
+unfoldable pub sourcesRefusal : Array → ℕ → ℕ → List ℕ → ℕ
+sourcesRefusal a stripe member bytes =
+    after (ownerRefusal a stripe member)
+    (refuse (not (eqb (length bytes) (stripeLength a))) 6 (refuse (not (othersGood a stripe member bytes)) 9 0))

@@ -2,30 +2,36 @@
 use Prim.Native.Nat.{ℕ, _<_}
 use mathlib.Core.Path.{_≡_}
 use mathlib.Core.Bool.{Bool, true, false, not}
-use mathlib.Core.List.{List, [], _∷_}
+use mathlib.Core.List.{List, [], _∷_, _++_, map}
 use lib.Dec.{eqb}
 use lib.ListN.{length, getD}
 use Rattle.layout.specs.Answers.{refuse, after, answer}
 use Rattle.layout.specs.Arrays.{stripeRefusal}
 use Rattle.layout.specs.declared.Array.{Array}
 use Rattle.format.specs.Formats.{Format}
-use Rattle.tag.specs.Blocks.{formatAt, tagOf}
-use Rattle.tag.specs.Tags.{found, due, standing}
+use Rattle.tag.specs.Blocks.{formatAt}
+use Rattle.tag.specs.Tags.{found, expected, standing}
 use Rattle.verdict.specs.Verdicts.{nonzero, saysClean, judged}
 use Rattle.stripe.specs.Tables.{table}
-use Rattle.stripe.specs.Stripes.{stripeLength, blockOf}
+use Rattle.stripe.specs.Stripes.{stripeLength, blockOf, leftOf}
 use Rattle.stripe.specs.Formats.{Summary, summaryOf}
 
 -- how the members stand: by their tag, and the one due to their guard at their place
 unfoldable pub standingMembers : Array → ℕ → Summary → List ℕ
-standingMembers a stripe s = table (a .members) (λ m. standing (formatAt a) (found (formatAt a) (getD (s .tags) m [])) (due a stripe m (getD (s .guards) m 0)))
+standingMembers a stripe s =
+    let F = formatAt a in
+    table (a .members) (λ m. standing F (found F (getD (s .tags) m [])) (expected a stripe m (found F (getD (s .tags) m [])) (getD (s .guards) m 0)))
 
--- which places of the combination are not zero
-unfoldable pub tornPlaces : Summary → List Bool
-tornPlaces s = nonzero (s .combined)
+-- what is left of the guards in the tags, where the parity carries the data members'
+abbrev pub guardsLeft : Format → Summary → ℕ
+guardsLeft F s = leftOf F (map (λ tag. found F tag .guard) (s .tags))
+
+-- which places of the combination are not zero; behind the last, that of the guards
+unfoldable pub tornPlaces : Format → Summary → List Bool
+tornPlaces F s = nonzero (s .combined ++ (guardsLeft F s ∷ []))
 
 abbrev pub verdict : Array → ℕ → Summary → List ℕ
-verdict a stripe s = judged (standingMembers a stripe s) (tornPlaces s)
+verdict a stripe s = judged (standingMembers a stripe s) (tornPlaces (formatAt a) s)
 
 -- ---- the full scrub of whole blocks, in member order, and of a stripe in memory
 
@@ -50,9 +56,3 @@ pub record FirstMember (f : ℕ → Bool) (n m : ℕ) : Type 0 where
   pub inside : m < n
   pub holds : f m ≡ true
   pub none-below : (k : ℕ) → k < m → f k ≡ false
-
--- ---- what the quick scrub is given
-
--- the number in a block's guard bytes as they stand
-abbrev pub storedGuard : Format → List ℕ → ℕ
-storedGuard F block = found F (tagOf F block) .guard

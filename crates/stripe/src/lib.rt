@@ -21,13 +21,13 @@ ghost use Rattle.layout.specs.Places.{ownerRefusal};
 ghost use Rattle.format.specs.Formats.{guard, guardsOf};
 ghost use Rattle.format.specs.Methods.{formatOf};
 ghost use Rattle.tag.specs.Blocks.{formatAt, dataOf};
-ghost use Rattle.tag.specs.Tags.{standingAt, good, tagged};
-ghost use Rattle.stripe.specs.Stripes.{stripeLength, blockOf, goodMembers, othersGood, othersData};
+ghost use Rattle.tag.specs.Tags.{standingAt, good, guardDue, taggedBy};
+ghost use Rattle.stripe.specs.Stripes.{stripeLength, blockOf, goodMembers, othersGood, othersData, storedGuard, othersGuards, guardsFit};
 ghost use Rattle.stripe.specs.Jobs.{withBlock};
 use copy::put;
-use format::METHOD;
 use layout::Array;
 use tag::GOOD;
+use verdict::combined_wide;
 
 // Bytes of a row: what stays in registers while the members go by.
 const ROW: usize = 128;
@@ -38,6 +38,19 @@ pub enum Reading {
     Stored,
     Rebuilt,
     Unchecked,
+}
+
+// The same number, wider: as a field of a tag is.
+fn wide(guard: u32) -> u64
+    ensures { λ r. ⌜ r ≡ guard ⌝ }
+{
+    guard as u64
+}
+
+// What data made again for a member come with: the guard that is due there, and whether they may be taken for those lost.
+struct Remade {
+    guard: u64,
+    fits: bool,
 }
 
 // Where a member's block begins.
@@ -90,10 +103,11 @@ fn standing_by(array: Array, stripe: u64, bytes: &[u8], member: usize, data_guar
     requires { ⌜ data_guard ≡ guard (formatAt array) (dataOf (formatAt array) (blockOf (formatAt array) (now bytes) member)) ⌝ }
     ensures { λ r. ⌜ r ≡ standingAt array stripe member (blockOf (formatAt array) (now (bytes .entry)) member) ⌝ }
 {
-    let method = METHOD;
+    let method = array.method;
     let at = block_at(method, member) + format::data_length(method);
-    let expected = tag::due(array, stripe, member, data_guard);
-    tag::standing(method, tag::found(method, bytes, at), expected)
+    let found = tag::found(method, bytes, at);
+    let expected = tag::expected(array, stripe, member, found, data_guard);
+    tag::standing(method, found, expected)
 }
 
 // The same, with the guard of its data taken.
@@ -102,7 +116,7 @@ fn standing(array: Array, stripe: u64, bytes: &[u8], member: usize) -> u8
     requires { ⌜ formatAt array .blockLength * member + formatAt array .blockLength ≤ length (now bytes) ⌝ }
     ensures { λ r. ⌜ r ≡ standingAt array stripe member (blockOf (formatAt array) (now (bytes .entry)) member) ⌝ }
 {
-    let method = METHOD;
+    let method = array.method;
     let from = block_at(method, member);
     let end = from + format::data_length(method);
     let data_guard = format::guard(method, &bytes[from..end]);
@@ -156,25 +170,91 @@ fn others_good(array: Array, stripe: u64, bytes: &[u8], skip: usize, guards: [u3
     true
 }
 
-// Writes a block at its place: the data, and the tag due there by the data's guard.
+// The guard in a member's tag, as it stands.
+fn stored_guard(method: u8, bytes: &[u8], member: usize) -> u64
+    requires { ⌜ formatOf method .blockLength * member + formatOf method .blockLength ≤ length (now bytes) ⌝ }
+    ensures { λ r. ⌜ r ≡ storedGuard (formatOf method) (blockOf (formatOf method) (now (bytes .entry)) member) ⌝ }
+{
+    let at = block_at(method, member) + format::data_length(method);
+    let found = tag::found(method, bytes, at);
+    found.guard
+}
+
+// What the guards in the tags of all members but `skip` combine to, of all of them where there is no such member.
+fn stored_combined(method: u8, bytes: &[u8], members: usize, skip: usize) -> u64
+    requires { ⌜ formatOf method .blockLength * members ≤ length (now bytes) ⌝ }
+    ensures { λ r. ⌜ r ≡ othersGuards (formatOf method) members skip (now (bytes .entry)) ⌝ }
+{
+    let mut guards: u64 = 0;
+    let mut member: usize = 0;
+    while member < members {
+        if member != skip {
+            guards = guards ^ stored_guard(method, bytes, member);
+        }
+        member += 1;
+    }
+    guards
+}
+
+// What the data made again for a member come with, by the guards of all members' data. Guards of data combine to that of the data; where the
+// parity carries the data members' guards, the others' tell the parity's, and have to fit a data member's.
+fn made(
+    array: Array,
+    stripe: u64,
+    member: usize,
+    bytes: &[u8],
+    guards: [u32; 16],
+    content: &[u8],
+) -> Remade
+    requires { ⌜ ownerRefusal array stripe member ≡ 0 ⌝ }
+    requires { ⌜ length (now bytes) ≡ stripeLength array ⌝ }
+    requires { ⌜ guards ≡ guardsOf (formatAt array) 16 (formatAt array .blockLength) (now bytes) ⌝ }
+    requires { ⌜ now content ≡ othersData (formatAt array) (array .members) member (now bytes) ⌝ }
+    ensures { λ r. ⌜ r .guard ≡ guardDue array stripe member (othersGuards (formatAt array) (array .members) member (now (bytes .entry))) (guard (formatAt array) (now (content .entry))) ⌝ }
+    ensures { λ r. ⌜ r .fits ≡ guardsFit array stripe member (now (bytes .entry)) (guard (formatAt array) (now (content .entry))) ⌝ }
+{
+    let method = array.method;
+    let members = array.members;
+    if format::carries(method) {
+        let others = stored_combined(method, bytes, members, member);
+        if member == layout::parity_member(array, stripe) {
+            return Remade {
+                guard: others,
+                fits: true,
+            };
+        }
+        let own = format::guard(method, content) as u64;
+        return Remade {
+            guard: own,
+            fits: others == own,
+        };
+    }
+    let others = combined_wide(&guards[0..members]) ^ guards[member];
+    let own = wide(others ^ format::settled(method, members));
+    Remade {
+        guard: own,
+        fits: true,
+    }
+}
+
+// Writes a block at its place: the data, and the tag due there with this guard.
 fn write_block(
     array: Array,
     stripe: u64,
     member: usize,
     content: &[u8],
-    data_guard: u32,
+    guard: u64,
     bytes: &mut [u8],
 )
     requires { ⌜ ownerRefusal array stripe member ≡ 0 ⌝ }
     requires { ⌜ length (now content) ≡ formatAt array .dataLength ⌝ }
     requires { ⌜ formatAt array .blockLength * member + formatAt array .blockLength ≤ length (now bytes) ⌝ }
-    requires { ⌜ data_guard ≡ guard (formatAt array) (now content) ⌝ }
-    ensures { λ _. ⌜ now (bytes .exit) ≡ withBlock (formatAt array) (now (bytes .entry)) member (tagged array stripe member (now (content .entry))) ⌝ }
+    ensures { λ _. ⌜ now (bytes .exit) ≡ withBlock (formatAt array) (now (bytes .entry)) member (taggedBy array stripe member guard (now (content .entry))) ⌝ }
 {
-    let method = METHOD;
+    let method = array.method;
     let from = block_at(method, member);
     let to = from + format::data_length(method);
-    let due = tag::due(array, stripe, member, data_guard);
+    let due = tag::due(array, stripe, member, guard);
     put(bytes, from, content);
     tag::write(method, due, bytes, to);
 }

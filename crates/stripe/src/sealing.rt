@@ -13,8 +13,8 @@ ghost use Rattle.stripe.specs.Jobs.{withBlock, sealRefusal, sealBytes};
 ghost use Rattle.stripe.specs.Steps.{dataBlock, dataWritten};
 use crate::block_at;
 use crate::combined;
+use crate::wide;
 use crate::write_block;
-use format::METHOD;
 use format::MOST_DATA;
 use layout::Array;
 use verdict::combined_wide;
@@ -36,7 +36,7 @@ fn seal_refusal(array: Array, stripe: u64, content: usize, length: usize) -> u8
         return refusal;
     }
     let members = array.members;
-    let method = METHOD;
+    let method = array.method;
     if content != data_at(method, members - 1) {
         return 6;
     }
@@ -65,7 +65,7 @@ fn write_member(
         return;
     }
     let index = layout::index_at(array, stripe, member);
-    let method = METHOD;
+    let method = array.method;
     let from = data_at(method, index);
     let end = from + format::data_length(method);
     write_block(
@@ -73,7 +73,7 @@ fn write_member(
         stripe,
         member,
         &content[from..end],
-        data_guard,
+        data_guard as u64,
         bytes,
     );
 }
@@ -95,8 +95,8 @@ fn write_data(array: Array, stripe: u64, content: &[u8], guards: [u32; 16], byte
     }
 }
 
-// Writes every byte of a stripe: the data members' blocks, then the parity made from them. The guard of the parity's data is the
-// exclusive-or of the data members' guards.
+// Writes every byte of a stripe: the data members' blocks, then the parity made from them. Its guard is the exclusive-or of the data
+// members' guards, with what such guards leave in a right stripe.
 pub fn seal(array: Array, stripe: u64, content: &[u8], bytes: &mut [u8]) -> u8
     ensures { λ r. ⌜ r ≡ sealRefusal array stripe (length (now (content .entry))) (length (now (bytes .entry))) ⌝ }
     ensures { λ _. ⌜ now (bytes .exit) ≡ sealBytes array stripe (now (content .entry)) (now (bytes .entry)) ⌝ }
@@ -105,7 +105,7 @@ pub fn seal(array: Array, stripe: u64, content: &[u8], bytes: &mut [u8]) -> u8
     if refusal != 0 {
         return refusal;
     }
-    let method = METHOD;
+    let method = array.method;
     let data = format::data_length(method);
     let guards = format::guards(method, content, data);
     write_data(array, stripe, content, guards, bytes);
@@ -113,13 +113,14 @@ pub fn seal(array: Array, stripe: u64, content: &[u8], bytes: &mut [u8]) -> u8
     let parity = layout::parity_member(array, stripe);
     let mut parity_data = [0u8; MOST_DATA];
     combined(method, bytes, members, parity, &mut parity_data);
-    let data_guard = combined_wide(&guards[0..members - 1]) ^ format::blank_if_odd(method, members);
+    let data_guards = combined_wide(&guards[0..members - 1]);
+    let parity_guard = wide(data_guards ^ format::settled(method, members));
     write_block(
         array,
         stripe,
         parity,
         &parity_data[0..data],
-        data_guard,
+        parity_guard,
         bytes,
     );
     0

@@ -7,27 +7,55 @@ ghost use Rattle.layout.specs.Answers.{answer};
 ghost use Rattle.layout.specs.Places.{ownerRefusal};
 ghost use Rattle.tag.specs.Blocks.{formatAt};
 ghost use Rattle.tag.specs.Tags.{standingAt, kindOf};
-ghost use Rattle.stripe.specs.Stripes.{blockOf};
+ghost use mathlib.Core.Bool.{cond};
+ghost use Rattle.stripe.specs.Stripes.{stripeLength, blockOf, othersData, recoverable};
 ghost use Rattle.stripe.specs.Jobs.{serveRefusal, servedData, unlessRefused, readNumbers, readingNumbers, readOut};
 use crate::Reading;
 use crate::block_at;
 use crate::combined;
+use crate::made;
 use crate::others_good;
 use crate::standing;
 use copy::put;
-use format::METHOD;
+use format::MOST_DATA;
 use layout::Array;
 use layout::Placed;
 use tag::UNCHECKED;
 
-// The data of the block at a place: its own unless it is bad, else those of the others where they are good.
+// Puts out the data made again for a member, where the others serve for it; else nothing. Says whether they do.
+fn made_into(array: Array, stripe: u64, member: usize, bytes: &[u8], out: &mut [u8]) -> bool
+    requires { ⌜ ownerRefusal array stripe member ≡ 0 ⌝ }
+    requires { ⌜ length (now bytes) ≡ stripeLength array ⌝ }
+    requires { ⌜ length (now out) ≡ formatAt array .dataLength ⌝ }
+    ensures { λ r. ⌜ r ≡ recoverable array stripe member (now (bytes .entry)) ⌝ }
+    ensures { λ _. ⌜ now (out .exit) ≡ cond (recoverable array stripe member (now (bytes .entry))) (othersData (formatAt array) (array .members) member (now (bytes .entry))) (now (out .entry)) ⌝ }
+{
+    let method = array.method;
+    let members = array.members;
+    let guards = format::guards(method, bytes, format::block_length(method));
+    if !others_good(array, stripe, bytes, member, guards) {
+        return false;
+    }
+    let size = format::data_length(method);
+    let mut content = [0u8; MOST_DATA];
+    combined(method, bytes, members, member, &mut content);
+    let data = &content[0..size];
+    let made = made(array, stripe, member, bytes, guards, data);
+    if !made.fits {
+        return false;
+    }
+    put(out, 0, data);
+    true
+}
+
+// The data of the block at a place: its own unless it is bad, else those of the others where they serve for it.
 fn serve(array: Array, stripe: u64, member: usize, bytes: &[u8], out: &mut [u8]) -> Reading
     requires { ⌜ ownerRefusal array stripe member ≡ 0 ⌝ }
     ensures { λ r. ⌜ readingNumbers r ≡ answer (serveRefusal array stripe member (now (bytes .entry)) (length (now (out .entry)))) (kindOf (standingAt array stripe member (blockOf (formatAt array) (now (bytes .entry)) member)) ∷ []) ⌝ }
     ensures { λ _. ⌜ now (out .exit) ≡ unlessRefused (serveRefusal array stripe member (now (bytes .entry)) (length (now (out .entry)))) (servedData array stripe member (now (bytes .entry))) (now (out .entry)) ⌝ }
 {
     let members = array.members;
-    let method = METHOD;
+    let method = array.method;
     if bytes.len() != block_at(method, members) {
         return Reading::Refused(6);
     }
@@ -44,11 +72,9 @@ fn serve(array: Array, stripe: u64, member: usize, bytes: &[u8], out: &mut [u8])
         }
         return Reading::Stored;
     }
-    let guards = format::guards(method, bytes, format::block_length(method));
-    if !others_good(array, stripe, bytes, member, guards) {
+    if !made_into(array, stripe, member, bytes, out) {
         return Reading::Refused(9);
     }
-    combined(method, bytes, members, member, out);
     Reading::Rebuilt
 }
 

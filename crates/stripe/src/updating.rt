@@ -2,17 +2,20 @@
 ghost use mathlib.Core.Path.{_≡_};
 ghost use Prim.Native.Nat.{_+_, _*_, _≤_};
 ghost use lib.ListN.{length, take};
-ghost use Rattle.layout.specs.Places.{ownerRefusal};
-ghost use Rattle.stripe.specs.Stripes.{blockOf};
+ghost use Rattle.layout.specs.Places.{isParity, ownerRefusal};
+ghost use mathlib.Core.Bool.{false, cond};
+ghost use lib.Bits.{bitXor};
+ghost use Rattle.format.specs.Formats.{guard};
+ghost use Rattle.stripe.specs.Stripes.{blockOf, storedGuard};
 ghost use Rattle.stripe.specs.Jobs.{replaceRefusal, replaced, unlessRefused, updateRefusal, updateBytes};
 ghost use Rattle.format.specs.Methods.{formatOf};
 ghost use Rattle.tag.specs.Blocks.{dataOf};
 ghost use Rattle.xor.specs.Xors.{xors};
 use crate::block_at;
 use crate::is_good;
+use crate::stored_guard;
 use crate::write_block;
 use copy::put;
-use format::METHOD;
 use format::MOST_DATA;
 use layout::Array;
 use layout::Placed;
@@ -23,7 +26,7 @@ fn replace_refusal(array: Array, stripe: u64, member: usize, content: usize, byt
     ensures { λ r. ⌜ r ≡ replaceRefusal array stripe member content (now (bytes .entry)) ⌝ }
 {
     let members = array.members;
-    let method = METHOD;
+    let method = array.method;
     if bytes.len() != block_at(method, members) {
         return 6;
     }
@@ -66,9 +69,32 @@ fn moved_parity(
     data
 }
 
+// The guard of the parity that is brought along: what it carries, with the member's old guard taken out and the new put in, or that of its
+// own data.
+fn moved_guard(
+    method: u8,
+    bytes: &[u8],
+    parity: usize,
+    member: usize,
+    data_guard: u64,
+    moved: &[u8],
+) -> u64
+    requires { ⌜ formatOf method .blockLength * parity + formatOf method .blockLength ≤ length (now bytes) ⌝ }
+    requires { ⌜ formatOf method .blockLength * member + formatOf method .blockLength ≤ length (now bytes) ⌝ }
+    ensures { λ r. ⌜ r ≡ cond (formatOf method .carries) (bitXor (bitXor (storedGuard (formatOf method) (blockOf (formatOf method) (now (bytes .entry)) parity)) (storedGuard (formatOf method) (blockOf (formatOf method) (now (bytes .entry)) member))) data_guard) (guard (formatOf method) (now (moved .entry))) ⌝ }
+{
+    if format::carries(method) {
+        return stored_guard(method, bytes, parity)
+            ^ stored_guard(method, bytes, member)
+            ^ data_guard;
+    }
+    format::guard(method, moved) as u64
+}
+
 // Replaces the data of the block at a place, and brings the parity along.
 fn replace(array: Array, stripe: u64, member: usize, content: &[u8], bytes: &mut [u8]) -> u8
     requires { ⌜ ownerRefusal array stripe member ≡ 0 ⌝ }
+    requires { ⌜ isParity array stripe member ≡ false ⌝ }
     ensures { λ r. ⌜ r ≡ replaceRefusal array stripe member (length (now (content .entry))) (now (bytes .entry)) ⌝ }
     ensures { λ _. ⌜ now (bytes .exit) ≡ unlessRefused (replaceRefusal array stripe member (length (now (content .entry))) (now (bytes .entry))) (replaced array stripe member (now (content .entry)) (now (bytes .entry))) (now (bytes .entry)) ⌝ }
 {
@@ -77,13 +103,14 @@ fn replace(array: Array, stripe: u64, member: usize, content: &[u8], bytes: &mut
         return refusal;
     }
     let parity = layout::parity_member(array, stripe);
-    let method = METHOD;
+    let method = array.method;
     let size = format::data_length(method);
     let moved = moved_parity(method, bytes, parity, member, content);
-    let moved_guard = format::guard(method, &moved[0..size]);
-    let data_guard = format::guard(method, content);
+    let data_guard = format::guard(method, content) as u64;
+    let parity_data = &moved[0..size];
+    let parity_guard = moved_guard(method, bytes, parity, member, data_guard, parity_data);
     write_block(array, stripe, member, content, data_guard, bytes);
-    write_block(array, stripe, parity, &moved[0..size], moved_guard, bytes);
+    write_block(array, stripe, parity, parity_data, parity_guard, bytes);
     0
 }
 

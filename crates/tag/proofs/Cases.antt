@@ -15,9 +15,10 @@ use Rattle.format.proofs.Sizes.{scale-some}
 use Rattle.layout.specs.Places.{isParity}
 use Rattle.layout.specs.declared.Array.{Array}
 use Rattle.tag.specs.Blocks.{formatAt, dataOf, tagOf}
-use Rattle.tag.specs.Tags.{found, due, applicationDue, faults, exempt, standing, standingAt, isBad, good, bad, unchecked, kindOf}
+use Rattle.tag.specs.Tags.{carried, found, due, applicationDue, faults, exempt, standing, foundIn, expectedAt, standingAt, isBad, good, bad, unchecked, kindOf}
 use Rattle.tag.specs.declared.Fields.{Fields}
-use Rattle.tag.proofs.Fits.{faults-few, faults-none, none-faults}
+use Rattle.tag.proofs.Fits.{fields-eq, faults-few, faults-none, none-faults}
+use Rattle.tag.proofs.Guards.{guard-own}
 
 -- ---- by the fields found and due
 
@@ -92,7 +93,7 @@ pub data OneOf : Bool → Bool → Bool → Type 0 where
 module _ (a : Array) (stripe member : ℕ) (block : List ℕ) where
   pub stands-few : standingAt a stripe member block ≤ 8
   unfolding standingAt
-  stands-few = standing-few (formatAt a) (found (formatAt a) (tagOf (formatAt a) block)) (due a stripe member (guard (formatAt a) (dataOf (formatAt a) block)))
+  stands-few = standing-few (formatAt a) (foundIn a block) (expectedAt a stripe member block)
 
   -- neither bad nor unchecked is good
   pub good-else : (how : ℕ) → how ≡ standingAt a stripe member block → isBad how ≡ false → how ≢ 8 → standingAt a stripe member block ≡ 0
@@ -113,16 +114,29 @@ module _ (a : Array) (stripe member : ℕ) (block : List ℕ) where
   pub good-otherwise : good a stripe member block ≡ true → (bad a stripe member block ≡ false) × (unchecked a stripe member block ≡ false)
   good-otherwise h = let k = eqb-true (standingAt a stripe member block) 0 h in (ap isBad k, ap (λ (x : ℕ). eqb x 8) k)
 
-  pub good-fields : good a stripe member block ≡ true → found (formatAt a) (tagOf (formatAt a) block) ≡ due a stripe member (guard (formatAt a) (dataOf (formatAt a) block))
+  pub good-fields : good a stripe member block ≡ true → foundIn a block ≡ expectedAt a stripe member block
   unfolding standingAt
   good-fields h = standing-good (formatAt a) _ _ (eqb-true _ 0 h) .1
 
   -- and what is due to it is no mark
-  pub good-checked : good a stripe member block ≡ true → exempt (formatAt a) (due a stripe member (guard (formatAt a) (dataOf (formatAt a) block))) ≡ false
+  pub good-checked : good a stripe member block ≡ true → exempt (formatAt a) (expectedAt a stripe member block) ≡ false
   unfolding standingAt
   good-checked h =
-      let k = standing-good (formatAt a) (found (formatAt a) (tagOf (formatAt a) block)) (due a stripe member (guard (formatAt a) (dataOf (formatAt a) block))) (eqb-true _ 0 h) in
+      let k = standing-good (formatAt a) (foundIn a block) (expectedAt a stripe member block) (eqb-true _ 0 h) in
       ap (exempt (formatAt a)) (sym (k .1)) ∙ k .0
+
+  -- its guard is that of its data, unless it is carried
+  pub good-guard : carried a stripe member ≡ false → good a stripe member block ≡ true → foundIn a block .guard ≡ guard (formatAt a) (dataOf (formatAt a) block)
+  unfolding due
+  good-guard own h =
+      ap (λ (f : Fields). f .guard) (good-fields h) ∙ guard-own a stripe member (foundIn a block .guard) (guard (formatAt a) (dataOf (formatAt a) block)) own
+
+  -- the other two fields are those due
+  pub good-due : good a stripe member block ≡ true → foundIn a block ≡ due a stripe member (foundIn a block .guard)
+  unfolding due
+  good-due h =
+      let e = good-fields h in
+      fields-eq (foundIn a block) (due a stripe member (foundIn a block .guard)) refl (ap (λ (f : Fields). f .application) e) (ap (λ (f : Fields). f .reference) e)
 
   pub unchecked-exempt : (unchecked a stripe member block ≡ true) ↔ (exempt (formatAt a) (found (formatAt a) (tagOf (formatAt a) block)) ≡ true)
   unfolding standingAt
@@ -141,7 +155,7 @@ due-checked a stripe member g volume =
     by-mark false h = omega arith
 
 pub fields-good : (a : Array) (stripe member : ℕ) (block : List ℕ) → a .volume < 256
-    → found (formatAt a) (tagOf (formatAt a) block) ≡ due a stripe member (guard (formatAt a) (dataOf (formatAt a) block)) → good a stripe member block ≡ true
+    → foundIn a block ≡ expectedAt a stripe member block → good a stripe member block ≡ true
 unfolding standingAt
 fields-good a stripe member block volume h =
     eq-eqb _ 0 (good-standing (formatAt a) _ _ (ap (exempt (formatAt a)) h ∙ due-checked a stripe member _ volume) h)

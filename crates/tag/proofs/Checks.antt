@@ -1,6 +1,6 @@
 -- What a check answers: when it is refused, and that it says good exactly of a good block, and unchecked exactly of an unchecked one.
 -- Assumes nothing.
-use mathlib.Core.Path.{_≡_, refl, sym, ap, _∙_}
+use mathlib.Core.Path.{_≡_, refl, sym, ap, ap₂, _∙_}
 use mathlib.Core.Bool.{Bool, true, false, cond, not}
 use mathlib.Core.List.{List, [], _∷_, map}
 use mathlib.Core.Logic.{_≢_, _↔_}
@@ -18,9 +18,9 @@ use Rattle.layout.specs.declared.Array.{Array}
 use Rattle.layout.proofs.Answers.{after-refused, answer-refused, refuse-none, refuse-last}
 use Rattle.layout.proofs.Ranges.{owner-else}
 use Rattle.tag.specs.Blocks.{formatAt, dataOf, tagOf}
-use Rattle.tag.specs.Tags.{found, tagWithin, dueAt, faults, exempt, standing, foundIn, expectedAt, standingAt, good, unchecked, kindOf, sideBySide, told, checkRefusal, checkNumbers}
+use Rattle.tag.specs.Tags.{found, tagWithin, dueAt, guardDue, expected, faults, exempt, standing, foundIn, expectedAt, standingAt, good, unchecked, kindOf, sideBySide, told, checkRefusal, checkNumbers}
 use Rattle.tag.specs.declared.Fields.{Fields}
-use Rattle.tag.proofs.Expected.{due-somewhere}
+use Rattle.tag.proofs.Owed.{due-somewhere}
 use Rattle.tag.proofs.Within.{tag-inside}
 use Rattle.tag.proofs.Cases.{standing-exempt, standing-faults}
 
@@ -124,10 +124,10 @@ module _ (a : Array) (stripe member : ℕ) where
 
     -- the same by steps, as the code goes
     pub check-by-steps : checkRefusal a stripe member (length block) ≡ 0 → (d g : ℕ) (e f : Fields) → d ≡ formatAt a .dataLength →
-        g ≡ guard (formatAt a) (take (d - 0) block) → e ≡ dueAt a stripe member g → f ≡ found (formatAt a) (tagWithin (formatAt a) block d) →
+        g ≡ guard (formatAt a) (take (d - 0) block) → f ≡ found (formatAt a) (tagWithin (formatAt a) block d) → e ≡ dueAt a stripe member (guardDue a stripe member (f .guard) g) →
         1 ∷ 0 ∷ told (formatAt a) f e ≡ checkNumbers a stripe member block
     unfolding dataOf tagOf
-    check-by-steps sound d g e f ed of-data expected read =
+    check-by-steps sound d g e f ed of-data read due-there =
         let F = formatAt a in
         let here = check-sound (length block) sound in
         let first : d - 0 ≡ F .dataLength = omega arith in
@@ -135,4 +135,9 @@ module _ (a : Array) (stripe member : ℕ) where
         let inside : F .dataLength + F .tagLength ≤ length block = omega (arith, F .block-parts) in
         let whole : tagWithin F block d ≡ drop (F .dataLength) block =
         ap (tagWithin F block) ed ∙ tag-inside F block (F .dataLength) inside ∙ take-all (F .tagLength) (drop (F .dataLength) block) short in
-        rw (read, whole, expected, due-somewhere a stripe member g (here .0), of-data, first) (sym (check-answered sound))
+        let is : f ≡ foundIn a block = read ∙ ap (found F) whole in
+        let own : g ≡ guard F (dataOf F block) = of-data ∙ ap (λ (k : ℕ). guard F (take k block)) first in
+        let right : e ≡ expectedAt a stripe member block =
+        due-there ∙ due-somewhere a stripe member (guardDue a stripe member (f .guard) g) (here .0)
+        ∙ ap₂ (λ (x : Fields) (y : ℕ). expected a stripe member x y) is own in
+        ap₂ (λ (x y : Fields). 1 ∷ 0 ∷ told F x y) is right ∙ sym (check-answered sound)

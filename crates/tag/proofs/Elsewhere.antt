@@ -2,7 +2,7 @@
 -- tells, with the application tag where a parity and a block of data are exchanged; in an array of another volume the application tag alone.
 -- Assumes nothing.
 use mathlib.Core.Path.{_≡_, refl, sym, ap, ap₂, _∙_}
-use mathlib.Core.Bool.{Bool, true, false, cond}
+use mathlib.Core.Bool.{Bool, true, false, cond, _&&_}
 use mathlib.Core.List.{List}
 use mathlib.Core.Logic.{_≢_}
 use Prim.Native.Nat.{ℕ, _+_, _*_, _<_}
@@ -17,53 +17,91 @@ use Rattle.layout.specs.Places.{isParity, blockNamed, referenceOf, ownerRefusal
 use Rattle.layout.specs.declared.Array.{Array}
 use Rattle.layout.proofs.References.{parity-any-volume, named-any-volume}
 use Rattle.tag.specs.Blocks.{formatAt, dataOf}
-use Rattle.tag.specs.Tags.{applicationDue, referenceDue, due, faults, exempt, standing, standingAt, good}
+use Rattle.tag.specs.Tags.{applicationDue, referenceDue, carried, guardDue, due, faults, exempt, standing, foundIn, standingAt, good}
 use Rattle.tag.specs.declared.Fields.{Fields}
 use Rattle.tag.proofs.Fits.{faults-by, reference-alone, application-alone}
-use Rattle.tag.proofs.Cases.{standing-faults, good-fields, good-checked}
+use Rattle.tag.proofs.Guards.{guard-carried}
+use Rattle.tag.proofs.Cases.{standing-faults, good-fields, good-guard, good-due, good-checked}
 use Rattle.tag.proofs.OnePlace.{marks, due-injective}
 
 module _ (a : Array) (s m t k : ℕ) (block : List ℕ) (h : good a s m block ≡ true) where
+  -- the guard that stands in it, that of its data, and the one due there
+  abbrev stored : ℕ
+  stored = foundIn a block .guard
+
   abbrev dataGuard : ℕ
   dataGuard = guard (formatAt a) (dataOf (formatAt a) block)
 
+  abbrev dueThere : ℕ
+  dueThere = guardDue a t k stored dataGuard
+
   -- how it stands there, by what is due here and there
-  stands-there : standingAt a t k block ≡ faults (due a s m dataGuard) (due a t k dataGuard)
+  stands-there : standingAt a t k block ≡ faults (due a s m stored) (due a t k dueThere)
   unfolding standingAt
   stands-there =
-      ap (λ (f : Fields). standing (formatAt a) f (due a t k dataGuard)) (good-fields a s m block h)
-      ∙ standing-faults (formatAt a) (due a s m dataGuard) (due a t k dataGuard) (good-checked a s m block h)
+      ap (λ (f : Fields). standing (formatAt a) f (due a t k dueThere)) (good-due a s m block h)
+      ∙ standing-faults (formatAt a) (due a s m stored) (due a t k dueThere) (ap (exempt (formatAt a)) (sym (good-due a s m block h) ∙ good-fields a s m block h) ∙ good-checked a s m block h)
+
+  -- its guard fits there, if it is that of its data, or if one is carried there
+  fits-own : carried a s m ≡ false → stored ≡ dueThere
+  unfolding guardDue
+  fits-own own = by-case (carried a t k)
+    where
+      by-case : (c : Bool) → stored ≡ cond c stored dataGuard
+      by-case true = refl
+      by-case false = good-guard a s m block own h
+
+  fits-carried : carried a t k ≡ true → stored ≡ dueThere
+  fits-carried c = sym (guard-carried a t k stored dataGuard c)
+
+  alike : isParity a s m ≡ isParity a t k → stored ≡ dueThere
+  alike kind = by-case (carried a s m) refl
+    where
+      by-case : (c : Bool) → carried a s m ≡ c → stored ≡ dueThere
+      by-case true e = fits-carried (ap (λ (x : Bool). formatAt a .carries && x) (sym kind) ∙ e)
+      by-case false e = fits-own e
 
   -- at another place of its kind: the reference tag alone
   pub other-place : ownerRefusal a s m ≡ 0 → ownerRefusal a t k ≡ 0 → isParity a s m ≡ isParity a t k → ((s ≡ t) × (m ≡ k) → ⊥) → standingAt a t k block ≡ 1
   unfolding due applicationDue
   other-place here there kind elsewhere =
+      let mark = ap (λ (x : Bool). (cond x 0x8000 0 + a .volume) * formatAt a .scale) kind in
       stands-there
-      ∙ reference-alone (due a s m dataGuard) (due a t k dataGuard) refl (ap (λ (x : Bool). (cond x 0x8000 0 + a .volume) * formatAt a .scale) kind)
-      (λ e. elsewhere (due-injective a s m t k here there dataGuard
-      (ap₂ (λ (x y : ℕ). record { guard = dataGuard; application = x; reference = y }) (ap (λ (x : Bool). (cond x 0x8000 0 + a .volume) * formatAt a .scale) kind) e)))
+      ∙ reference-alone (due a s m stored) (due a t k dueThere) (alike kind) mark
+      (λ e. elsewhere (due-injective a s m t k here there stored stored (ap₂ (λ (x y : ℕ). record { guard = stored; application = x; reference = y }) mark e)))
 
-  -- a parity where data belong, or data where the parity does: the application tag, and the reference tag unless it is the same
-  pub other-kind : isParity a s m ≢ isParity a t k → standingAt a t k block ≡ 2 + cond (eqb (referenceDue a s m) (referenceDue a t k)) 0 1
+  -- a parity where data belong, or data where the parity does: the application tag, and the reference tag unless it is the same; and the
+  -- guard, where a carried one is not by chance that of the parity's own data
+  pub other-kind : isParity a s m ≢ isParity a t k
+      → standingAt a t k block ≡ cond (eqb stored dueThere) 0 4 + 2 + cond (eqb (referenceDue a s m) (referenceDue a t k)) 0 1
   unfolding due applicationDue
   other-kind differ =
       stands-there
-      ∙ faults-by (due a s m dataGuard) (due a t k dataGuard) true false (eqb (referenceDue a s m) (referenceDue a t k)) (eq-eqb dataGuard dataGuard refl)
+      ∙ faults-by (due a s m stored) (due a t k dueThere) (eqb stored dueThere) false (eqb (referenceDue a s m) (referenceDue a t k)) refl
       (ne-eqb (applicationDue a s m) (applicationDue a t k) (λ e. differ (marks (isParity a s m) (isParity a t k) (a .volume) (formatAt a .scale) (scale-some (formatAt a)) e)))
       refl
 
+  -- a guard that is not carried fits everywhere
+  pub other-kind-own : carried a s m ≡ false → isParity a s m ≢ isParity a t k → standingAt a t k block ≡ 2 + cond (eqb (referenceDue a s m) (referenceDue a t k)) 0 1
+  other-kind-own own differ =
+      other-kind differ ∙ ap (λ (x : Bool). cond x 0 4 + 2 + cond (eqb (referenceDue a s m) (referenceDue a t k)) 0 1) (eq-eqb stored dueThere (fits-own own))
+
 -- at its own place in an array of another volume: the application tag alone
-pub other-volume : (members stripes v w s m : ℕ) (block : List ℕ) → v ≢ w → good (arrayOf members stripes v) s m block ≡ true → standingAt (arrayOf members stripes w) s m block ≡ 2
-unfolding standingAt due applicationDue referenceDue
-other-volume members stripes v w s m block other h =
-    let a = arrayOf members stripes v in
-    let b = arrayOf members stripes w in
-    let g = guard (formatAt a) (dataOf (formatAt a) block) in
-    ap (λ (f : Fields). standing (formatAt a) f (due b s m g)) (good-fields a s m block h)
-    ∙ standing-faults (formatAt a) (due a s m g) (due b s m g) (good-checked a s m block h)
+pub other-volume : (members stripes v w method s m : ℕ) (block : List ℕ) → v ≢ w → good (arrayOf members stripes v method) s m block ≡ true → standingAt (arrayOf members stripes w method) s m block ≡ 2
+unfolding standingAt due applicationDue referenceDue guardDue
+other-volume members stripes v w method s m block other h =
+    let a = arrayOf members stripes v method in
+    let b = arrayOf members stripes w method in
+    let stored = foundIn a block .guard in
+    let own = guard (formatAt a) (dataOf (formatAt a) block) in
+    let g = guardDue b s m stored own in
+    let same : guardDue a s m stored own ≡ g =
+    ap (λ (x : Bool). cond (formatAt a .carries && x) stored own) (parity-any-volume members stripes v w method s m) in
+    ap (λ (f : Fields). standing (formatAt a) f (due b s m g)) (good-fields a s m block h ∙ ap (due a s m) same)
+    ∙ standing-faults (formatAt a) (due a s m g) (due b s m g) (ap (λ (x : ℕ). exempt (formatAt a) (due a s m x)) (sym same) ∙ good-checked a s m block h)
     ∙ application-alone (due a s m g) (due b s m g) refl
-    (λ e. other (volumes (isParity a s m) v w (formatAt a .scale) (scale-some (formatAt a)) (e ∙ ap (λ (x : Bool). (cond x 0x8000 0 + w) * formatAt a .scale) (sym (parity-any-volume members stripes v w s m)))))
-    (ap referenceOf (named-any-volume members stripes v w s m))
+    (λ e. other (volumes (isParity a s m) v w (formatAt a .scale) (scale-some (formatAt a)) (e ∙ ap (λ (x : Bool). (cond x 0x8000 0 + w) * formatAt a .scale) (sym (parity-any-volume members stripes v w method s m)))))
+    (ap referenceOf (named-any-volume members stripes v w method s m))
   where
     volumes : (x : Bool) (v w scale : ℕ) → 0 < scale → (cond x 0x8000 0 + v) * scale ≡ (cond x 0x8000 0 + w) * scale → v ≡ w
     volumes true v w scale p e = omega (arith, eq-of-mul-eq-mul-right scale p (0x8000 + v) (0x8000 + w) e)

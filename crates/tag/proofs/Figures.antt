@@ -17,7 +17,7 @@ use Rattle.layout.specs.Places.{parityMember, lowestBlock, blockAt, indexAt, bl
 use Rattle.layout.specs.declared.Array.{Array}
 use Rattle.tag.specs.Numbers.{bytesOf}
 use Rattle.tag.specs.Blocks.{tagOf}
-use Rattle.tag.specs.Tags.{tagBytes, found, applicationDue, referenceDue, due, faults, exempt, standing, told, checkedNumbers}
+use Rattle.tag.specs.Tags.{tagBytes, found, applicationDue, referenceDue, guardDue, due, faults, exempt, standing, expected, told, checkedNumbers}
 use Rattle.tag.specs.declared.Fields.{Fields}
 use Rattle.tag.specs.declared.Checked.the-variants.{Unchecked, Told}
 use Rattle.tag.proofs.Numbers.{take-elements, number-of-two, number-of-four}
@@ -25,7 +25,7 @@ use Rattle.tag.proofs.Numbers.{take-elements, number-of-two, number-of-
 -- ---- the sealed stripe of the outline: three members, volume 7, stripe 0; its parity, then its two blocks
 
 abbrev three : Array
-three = arrayOf 3 1 7
+three = arrayOf 3 1 7 1
 
 pub sealed-tags : (tagBytes (formatOf 1) (due three 0 0 0x176E) ≡ 0x17 ∷ 0x6E ∷ 0x80 ∷ 0x07 ∷ 0x00 ∷ 0x00 ∷ 0x00 ∷ 0x00 ∷ [])
     × (tagBytes (formatOf 1) (due three 0 1 0x8BB7) ≡ 0x8B ∷ 0xB7 ∷ 0x00 ∷ 0x07 ∷ 0x00 ∷ 0x00 ∷ 0x00 ∷ 0x00 ∷ [])
@@ -36,7 +36,7 @@ sealed-tags = (refl, refl, refl)
 -- ---- far out: five members, stripe 65,536, whose parity is on member 1
 
 abbrev five : Array
-five = arrayOf 5 268435456 0
+five = arrayOf 5 268435456 0 1
 
 pub far-parity : tagBytes (formatOf 1) (due five 65536 1 0) ≡ 0x00 ∷ 0x00 ∷ 0x80 ∷ 0x00 ∷ 0x00 ∷ 0x04 ∷ 0x00 ∷ 0x00 ∷ []
 unfolding formatOf tagBytes due applicationDue referenceDue referenceOf blockNamed lowestBlock blockAt indexAt parityMember bytesOf
@@ -92,3 +92,26 @@ pub check-names : (checkedNumbers Unchecked ≡ 1 ∷ 0 ∷ 2 ∷ 0 ∷ 0 ∷ 0 
     × (checkedNumbers (Told (fields 5 2 3) (fields 1 2 3)) ≡ 1 ∷ 0 ∷ 1 ∷ 5 ∷ 1 ∷ 0 ∷ 2 ∷ 2 ∷ 1 ∷ 3 ∷ 3 ∷ 1 ∷ [])
 unfolding faults
 check-names = (refl, refl)
+
+-- ---- the guard that is due: of method 2's parity the one that is carried, of every other block that of its own data
+
+abbrev carrying : Array
+carrying = arrayOf 3 1 7 2
+
+pub guards-due : (guardDue carrying 0 0 5 9 ≡ 5) × (guardDue carrying 0 1 5 9 ≡ 9) × (guardDue three 0 0 5 9 ≡ 9) × (guardDue three 0 1 5 9 ≡ 9)
+unfolding formatOf guardDue parityMember
+guards-due = (refl, refl, refl, refl)
+
+-- so a check tells of method 2's parity that its guard fits, whatever it is, and its other fields as of any block
+pub parity-unguarded : (g own : ℕ) → (told (formatOf 2) (fields g 0x8007 0) (expected carrying 0 0 (fields g 0x8007 0) own) ≡ 0 ∷ g ∷ g ∷ 1 ∷ 0x8007 ∷ 0x8007 ∷ 1 ∷ 0 ∷ 0 ∷ 1 ∷ [])
+    × (standing (formatOf 2) (fields g 0x8007 0) (expected carrying 0 0 (fields g 0x8007 0) own) ≡ 0)
+    × (standing (formatOf 2) (fields g 0x0007 3) (expected carrying 0 0 (fields g 0x0007 3) own) ≡ 3)
+unfolding formatOf exempt told standing faults due guardDue applicationDue referenceDue referenceOf blockNamed lowestBlock blockAt indexAt parityMember
+parity-unguarded g own = let same = eq-eqb g g refl in (rw same, rw same, rw same)
+
+-- a data member's guard is held against its data, and so is method 1's parity's
+pub data-guarded : (told (formatOf 2) (fields 5 7 0) (expected carrying 0 1 (fields 5 7 0) 9) ≡ 1 ∷ 5 ∷ 9 ∷ 0 ∷ 7 ∷ 7 ∷ 1 ∷ 0 ∷ 0 ∷ 1 ∷ [])
+    × (standing (formatOf 2) (fields 5 7 0) (expected carrying 0 1 (fields 5 7 0) 9) ≡ 4)
+    × (standing (formatOf 1) (fields 5 0x8007 0) (expected three 0 0 (fields 5 0x8007 0) 9) ≡ 4)
+unfolding formatOf exempt told standing faults due guardDue applicationDue referenceDue referenceOf blockNamed lowestBlock blockAt indexAt parityMember
+data-guarded = (refl, refl, refl)

@@ -14,9 +14,9 @@ use Rattle.layout.proofs.Ranges.{sound-block}
 use Rattle.layout.proofs.Bijection.{named-sound, named-injective}
 use Rattle.layout.proofs.References.{reference-injective}
 use Rattle.tag.specs.Blocks.{formatAt, dataOf}
-use Rattle.tag.specs.Tags.{applicationDue, referenceDue, due, good}
+use Rattle.tag.specs.Tags.{applicationDue, referenceDue, due, foundIn, good}
 use Rattle.tag.specs.declared.Fields.{Fields}
-use Rattle.tag.proofs.Cases.{good-fields}
+use Rattle.tag.proofs.Cases.{good-due}
 
 -- the mark in the application tag tells the kind
 pub marks : (x y : Bool) (v scale : ℕ) → 0 < scale → (cond x 0x8000 0 + v) * scale ≡ (cond y 0x8000 0 + v) * scale → x ≡ y
@@ -27,9 +27,9 @@ marks false false v scale h e = refl
 
 module _ (a : Array) (s m t k : ℕ) (here : ownerRefusal a s m ≡ 0) (there : ownerRefusal a t k ≡ 0) where
   -- what is due at a place tells the place
-  pub due-injective : (g : ℕ) → due a s m g ≡ due a t k g → (s ≡ t) × (m ≡ k)
+  pub due-injective : (g h : ℕ) → due a s m g ≡ due a t k h → (s ≡ t) × (m ≡ k)
   unfolding due applicationDue referenceDue
-  due-injective g same =
+  due-injective g h same =
       let x = blockNamed a s m in
       let y = blockNamed a t k in
       named-injective a s m t k here there
@@ -38,4 +38,5 @@ module _ (a : Array) (s m t k : ℕ) (here : ownerRefusal a s m ≡ 0) (there : 
 
   pub one-place : (block : List ℕ) → good a s m block ≡ true → good a t k block ≡ true → (s ≡ t) × (m ≡ k)
   one-place block g h =
-      due-injective (guard (formatAt a) (dataOf (formatAt a) block)) (sym (good-fields a s m block g) ∙ good-fields a t k block h)
+      let stored = foundIn a block .guard in
+      due-injective stored stored (sym (good-due a s m block g) ∙ good-due a t k block h)

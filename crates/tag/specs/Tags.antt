@@ -52,14 +52,22 @@ applicationDue a stripe member = (cond (isParity a stripe member) 0x8000 0 + a .
 unfoldable pub referenceDue : Array → ℕ → ℕ → ℕ
 referenceDue a stripe member = referenceOf (blockNamed a stripe member)
 
--- the fields due at a place to a block whose data have this guard
+-- a parity's place whose tag holds what the data members' guards combine to, and is not held against its own data
+abbrev pub carried : Array → ℕ → ℕ → Bool
+carried a stripe member = formatAt a .carries && isParity a stripe member
+
+-- the guard due at a place: at such a parity's the combination, else that of the block's own data
+unfoldable pub guardDue : Array → ℕ → ℕ → ℕ → ℕ → ℕ
+guardDue a stripe member combined own = cond (carried a stripe member) combined own
+
+-- the fields due at a place, with the guard that is due there
 unfoldable pub due : Array → ℕ → ℕ → ℕ → Fields
-due a stripe member dataGuard = record { guard = dataGuard; application = applicationDue a stripe member; reference = referenceDue a stripe member }
+due a stripe member guard = record { guard = guard; application = applicationDue a stripe member; reference = referenceDue a stripe member }
 
 -- the same on any numbers: zeros where there is no such place
 unfoldable pub dueAt : Array → ℕ → ℕ → ℕ → Fields
-dueAt a stripe member dataGuard =
-    cond (eqb (ownerRefusal a stripe member) 0) (due a stripe member dataGuard) (record { guard = 0; application = 0; reference = 0 })
+dueAt a stripe member guard =
+    cond (eqb (ownerRefusal a stripe member) 0) (due a stripe member guard) (record { guard = 0; application = 0; reference = 0 })
 
 -- ---- how a block stands at a place: good, bad or unchecked
 
@@ -77,12 +85,16 @@ module _ (F : Format) where
   unfoldable pub standing : Fields → Fields → ℕ
   standing f e = cond (exempt f) 8 (faults f e)
 
--- the fields found in a block's tag, and those due to its data at a place
+-- the fields due at a place where these were found, to data of this guard: a carried guard is due as it was found
+abbrev pub expected : Array → ℕ → ℕ → Fields → ℕ → Fields
+expected a stripe member f own = due a stripe member (guardDue a stripe member (f .guard) own)
+
+-- the fields found in a block's tag, and those due to it at a place
 abbrev pub foundIn : Array → List ℕ → Fields
 foundIn a block = found (formatAt a) (tagOf (formatAt a) block)
 
 abbrev pub expectedAt : Array → ℕ → ℕ → List ℕ → Fields
-expectedAt a stripe member block = due a stripe member (guard (formatAt a) (dataOf (formatAt a) block))
+expectedAt a stripe member block = expected a stripe member (foundIn a block) (guard (formatAt a) (dataOf (formatAt a) block))
 
 unfoldable pub standingAt : Array → ℕ → ℕ → List ℕ → ℕ
 standingAt a stripe member block = standing (formatAt a) (foundIn a block) (expectedAt a stripe member block)
@@ -103,9 +115,12 @@ unchecked a stripe member block = eqb (standingAt a stripe member block) 8
 abbrev pub kindOf : ℕ → ℕ
 kindOf how = cond (eqb how 0) 0 (cond (eqb how 8) 2 1)
 
--- data with the tag due to them at a place
-unfoldable pub tagged : Array → ℕ → ℕ → List ℕ → List ℕ
-tagged a stripe member bytes = bytes ++ tagBytes (formatAt a) (due a stripe member (guard (formatAt a) bytes))
+-- data with the tag due at a place, with this guard; and with the one due there, to them or, carried, of this combination
+unfoldable pub taggedBy : Array → ℕ → ℕ → ℕ → List ℕ → List ℕ
+taggedBy a stripe member guard bytes = bytes ++ tagBytes (formatAt a) (due a stripe member guard)
+
+unfoldable pub tagged : Array → ℕ → ℕ → ℕ → List ℕ → List ℕ
+tagged a stripe member combined bytes = taggedBy a stripe member (guardDue a stripe member combined (guard (formatAt a) bytes)) bytes
 
 -- ---- check, in numbers: 0 good, 1 bad, 2 unchecked; then of guard, application tag and reference tag each what was found, what was
 -- due, and 1 where they are the same. Of a block that is not to be checked no values.

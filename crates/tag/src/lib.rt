@@ -1,6 +1,5 @@
 // The tag of a block: what is due at a place, and a block checked against it.
 use copy::put;
-use format::METHOD;
 use layout::Array;
 use layout::Owned;
 ghost use mathlib.Core.Path.{_≡_};
@@ -11,8 +10,9 @@ ghost use lib.Dec.{eqb};
 ghost use lib.ListN.{length, take, drop};
 ghost use lib.Seq.{sets};
 ghost use Rattle.format.specs.Methods.{formatOf};
+ghost use Rattle.layout.specs.Places.{isParity};
 ghost use Rattle.tag.specs.Numbers.{bytesOf, numberOf};
-ghost use Rattle.tag.specs.Tags.{tagWithin, tagWritten, found, dueAt, faults, exempt, standing, isBad, told, checkRefusal, checkNumbers, checkedNumbers};
+ghost use Rattle.tag.specs.Tags.{tagWithin, tagWritten, found, dueAt, guardDue, faults, exempt, standing, isBad, told, checkRefusal, checkNumbers, checkedNumbers};
 
 // What marks a parity block in its application tag, above the volume.
 const PARITY: u16 = 0x8000;
@@ -178,12 +178,12 @@ pub fn write(method: u8, fields: Fields, bytes: &mut [u8], at: usize)
     put_number(bytes, third, half, reference);
 }
 
-// The fields due at a place to a block whose data have this guard; zeros where there is no such place.
-pub fn due(array: Array, stripe: u64, member: usize, guard: u32) -> Fields
-    ensures { λ r. ⌜ r ≡ dueAt array stripe member guard ⌝ }
+// The fields due at a place where a parity's guard is one and every other block's another; zeros where there is no such place.
+fn due_by(array: Array, stripe: u64, member: usize, parity: u64, own: u64) -> Fields
+    ensures { λ r. ⌜ r ≡ dueAt array stripe member (cond (isParity array stripe member) parity own) ⌝ }
 {
     let volume = array.volume as u16;
-    let method = METHOD;
+    let method = array.method;
     let owned = layout::owner(array, stripe, member);
     match owned {
         Owned::Refused(_) => Fields {
@@ -195,7 +195,7 @@ pub fn due(array: Array, stripe: u64, member: usize, guard: u32) -> Fields
             let application = format::scaled(method, PARITY + volume);
             let reference = layout::reference(lowest);
             Fields {
-                guard: guard as u64,
+                guard: parity,
                 application,
                 reference,
             }
@@ -204,12 +204,39 @@ pub fn due(array: Array, stripe: u64, member: usize, guard: u32) -> Fields
             let application = format::scaled(method, volume);
             let reference = layout::reference(block);
             Fields {
-                guard: guard as u64,
+                guard: own,
                 application,
                 reference,
             }
         }
     }
+}
+
+// The fields due at a place, with the guard that is due there; zeros where there is no such place.
+pub fn due(array: Array, stripe: u64, member: usize, guard: u64) -> Fields
+    ensures { λ r. ⌜ r ≡ dueAt array stripe member guard ⌝ }
+{
+    due_by(array, stripe, member, guard, guard)
+}
+
+// The guard due to a parity: the one found, where parities carry the data members' guards and it is not held against its own data; else that
+// of its data.
+fn parity_guard(method: u8, found: u64, own: u64) -> u64
+    ensures { λ r. ⌜ r ≡ cond (formatOf method .carries) found own ⌝ }
+{
+    if format::carries(method) {
+        return found;
+    }
+    own
+}
+
+// The fields due at a place where these were found, to data of this guard. A carried guard is due as it was found.
+pub fn expected(array: Array, stripe: u64, member: usize, found: Fields, own: u32) -> Fields
+    ensures { λ r. ⌜ r ≡ dueAt array stripe member (guardDue array stripe member (found .guard) own) ⌝ }
+{
+    let guard = own as u64;
+    let parity = parity_guard(array.method, found.guard, guard);
+    due_by(array, stripe, member, parity, guard)
 }
 
 // A number where two differ, 0 where they are the same.
@@ -271,7 +298,7 @@ fn said(method: u8, found: Fields, expected: Fields) -> Checked
 fn check_refusal(array: Array, stripe: u64, member: usize, length: usize) -> u8
     ensures { λ r. ⌜ r ≡ checkRefusal array stripe member length ⌝ }
 {
-    let method = METHOD;
+    let method = array.method;
     let refusal = layout::owner_refusal(array, stripe, member);
     if refusal != 0 {
         return refusal;
@@ -286,13 +313,13 @@ fn check_refusal(array: Array, stripe: u64, member: usize, length: usize) -> u8
 pub fn check(array: Array, stripe: u64, member: usize, block: &[u8]) -> Checked
     ensures { λ r. ⌜ checkedNumbers r ≡ checkNumbers array stripe member (now (block .entry)) ⌝ }
 {
-    let method = METHOD;
+    let method = array.method;
     let refusal = check_refusal(array, stripe, member, block.len());
     if refusal != 0 {
         return Checked::Refused(refusal);
     }
     let data = format::data_length(method);
     let guard = format::guard(method, &block[0..data]);
-    let expected = due(array, stripe, member, guard);
-    said(method, found(method, block, data), expected)
+    let found = crate::found(method, block, data);
+    said(method, found, expected(array, stripe, member, found, guard))
 }

@@ -1,6 +1,7 @@
 pub mod Flags
 pub mod Greatest
 pub mod Verdicts
+pub mod Behind
 pub mod Quick
 pub mod Injective
 pub mod Figures

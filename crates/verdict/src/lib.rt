@@ -1,5 +1,6 @@
 // The verdict on how a stripe's members stand and on their combined data, and the quick scrub of its stored guards: all of a scrub that looks at no block.
 ghost use mathlib.Core.Path.{_≡_};
+ghost use mathlib.Core.List.{[], _∷_, _++_};
 ghost use Prim.Native.Nat.{max};
 ghost use Rattle.layout.specs.Arrays.{within};
 ghost use lib.Dec.{eqb};
@@ -24,8 +25,8 @@ const MOST_BAD: u8 = 7;
 const UNCHECKED: u8 = 8;
 
 // What a scrub finds in a stripe: every member good and parity right; the lowest of `count` bad members, and which of its fields are not
-// those due (4 the guard, 2 the application tag, 1 the reference tag); with none bad, the lowest of `count` unchecked ones; or, with every member good, the lowest place where the members' data do not combine to zero (01 calls such a
-// stripe torn).
+// those due (4 the guard, 2 the application tag, 1 the reference tag); with none bad, the lowest of `count` unchecked ones; or, with every member good, the lowest place where the members' data do not combine to zero, or the place
+// behind them where what the tags hold does not (01 calls such a stripe torn).
 pub enum Verdict {
     Clean,
     Bad {
@@ -126,9 +127,9 @@ fn standing_in(least: u8, most: u8, members: &[u8]) -> Alike
     Alike { lowest, count }
 }
 
-// The verdict on a stripe whose members stand so, with such combined data.
-pub fn judge(members: &[u8], combined: &[u8]) -> Verdict
-    ensures { λ r. ⌜ verdictNumbers r ≡ judged (now (members .entry)) (nonzero (now (combined .entry))) ⌝ }
+// The verdict on a stripe whose members stand so, with such combined data, and behind their last place what is left of the guards in the tags.
+pub fn judge(members: &[u8], combined: &[u8], left: u64) -> Verdict
+    ensures { λ r. ⌜ verdictNumbers r ≡ judged (now (members .entry)) (nonzero (now (combined .entry) ++ (left ∷ []))) ⌝ }
 {
     let bad = standing_in(LEAST_BAD, MOST_BAD, members);
     let lowest = bad.lowest;
@@ -148,6 +149,9 @@ pub fn judge(members: &[u8], combined: &[u8]) -> Verdict
     }
     let place = first_nonzero(combined);
     if place < combined.len() {
+        return Verdict::Torn { place };
+    }
+    if left != 0 {
         return Verdict::Torn { place };
     }
     Verdict::Clean

@@ -4,7 +4,13 @@ use super::Outcome;
 use crate::random::Random;
 use model::guard;
 use model::layout::{Array, Owner};
-use model::stripe::{self, APPLICATION, BLOCK, DATA, Fits, UNCHECKED, Verdict};
+use model::stripe::{
+    self, APPLICATION, BLOCK, DATA, Fits, UNCHECKED, Verdict, guard_of, is_combined,
+};
+use std::ops::Range;
+
+/// The guard of a block.
+const GUARD: Range<usize> = 512..514;
 
 /// How many stripes are tried of each number of members.
 const STRIPES_EACH: usize = 1_430;
@@ -18,6 +24,10 @@ pub const STRIPES: [u64; 10] = [1, 2, 3, 7, 100, 65_535, 65_536, 65_537, 268_435
 pub const FAR_STRIPES: [u64; 6] = [0, 268_435_457, 1 << 32, (1 << 32) + 1, 1 << 63, u64::MAX];
 #[rustfmt::skip]
 pub const FAR_MEMBERS: [usize; 11] = [0, 1, 2, 17, 18, 255, 256, 259, 65_539, (1 << 32) + 5, usize::MAX];
+
+/// The methods, and numbers that are none.
+pub const METHODS: [u8; 2] = [1, 2];
+pub const FAR_METHODS: [u8; 7] = [0, 3, 4, 128, 129, 130, 255];
 
 /// A volume: any, and often FFh, with which a tag that is due comes nearest to the mark of an unchecked block.
 pub fn any_volume(random: &mut Random) -> u8 {
@@ -34,6 +44,7 @@ pub fn array(random: &mut Random) -> Array {
         members: random.between(3, 16) as usize,
         stripes,
         volume: any_volume(random),
+        method: random.pick(&METHODS),
     }
 }
 
@@ -53,6 +64,9 @@ pub fn any_array(random: &mut Random) -> Array {
     }
     if random.one_in(6) {
         array.stripes = random.pick(&FAR_STRIPES);
+    }
+    if random.one_in(6) {
+        array.method = random.pick(&FAR_METHODS);
     }
     array
 }
@@ -150,7 +164,11 @@ fn data(blocks: usize, random: &mut Random) -> Vec<u8> {
 
 impl Case {
     pub fn sealed(array: Array, stripe: u64, random: &mut Random) -> Self {
-        let data = data(array.data_members(), random);
+        Case::over(array, stripe, data(array.data_members(), random))
+    }
+
+    /// A stripe sealed over these data.
+    pub fn over(array: Array, stripe: u64, data: Vec<u8>) -> Self {
         let room = vec![0; array.members * BLOCK];
         let bytes = stripe::seal(&array, stripe, &data, &room).expect("a fit array and stripe");
         Case {
@@ -199,6 +217,35 @@ impl Case {
         }
     }
 
+    /// In how many ways fields of a member's block can be wrong, by the numbers of `some_wrong`: a guard that nobody checks fits.
+    pub fn ways_wrong(&self, member: usize) -> usize {
+        match is_combined(&self.array, self.stripe, member) {
+            true => 3,
+            false => 7,
+        }
+    }
+
+    /// A member's block in which one field does not fit, or several.
+    pub fn any_wrong(&self, member: usize, random: &mut Random) -> Fits {
+        some_wrong(1 + random.below(self.ways_wrong(member)))
+    }
+
+    /// Another guard for the parity. By method 2 it stays good, and the stripe is torn.
+    pub fn tear_guards(&mut self, random: &mut Random) -> Verdict {
+        let parity = self.array.parity_member(self.stripe);
+        let guard = self.stored_guard(parity) ^ random.between(1, 65_535) as u16;
+        self.put_guard(parity, guard);
+        Verdict::Torn { place: DATA }
+    }
+
+    pub fn stored_guard(&self, member: usize) -> u16 {
+        stripe::stored_guards(&self.bytes)[member]
+    }
+
+    fn put_guard(&mut self, member: usize, guard: u16) {
+        self.block(member)[GUARD].copy_from_slice(&guard.to_be_bytes());
+    }
+
     /// A member written anew from a place on, data and tag.
     pub fn tear(&mut self, member: usize, place: usize, random: &mut Random) -> Verdict {
         self.spoil(member, place, random);
@@ -227,10 +274,15 @@ impl Case {
         &mut self.bytes[stripe::span(member)]
     }
 
-    /// A member's data as they are, with the tag due at a place that may be another.
+    /// A member's data as they are, with the tag due at a place that may be another. A guard that these data do not tell stays.
     fn tag_as(&mut self, array: Array, stripe: u64, member: usize, place: usize) {
+        let stored = self.stored_guard(member);
         let block = self.block(member);
-        let tagged = stripe::tagged(&array, stripe, place, &block[..DATA]);
+        let guard = match is_combined(&array, stripe, place) {
+            true => stored,
+            false => guard_of(&array, &block[..DATA]),
+        };
+        let tagged = stripe::tagged(&array, stripe, place, &block[..DATA], guard);
         block.copy_from_slice(&tagged);
     }
 
@@ -250,14 +302,9 @@ pub fn some_wrong(number: usize) -> Fits {
     }
 }
 
-/// A block in which one field does not fit, or several.
-pub fn any_wrong(random: &mut Random) -> Fits {
-    some_wrong(1 + random.below(7))
-}
-
 type Damage = fn(&mut Case, usize, &mut Random);
 
-const DAMAGES: [Damage; 27] = [
+const DAMAGES: [Damage; 33] = [
     fields,
     fields,
     flip,
@@ -280,8 +327,14 @@ const DAMAGES: [Damage; 27] = [
     torn,
     torn,
     torn_unnoticed,
+    update_cut,
+    update_cut,
+    parity_guard,
+    parity_guard_own,
+    turned_word,
     fields_reversed,
     guard_from_ones,
+    guard_of_other_method,
     parity_tag_combined,
     blank,
     noise,
@@ -289,7 +342,8 @@ const DAMAGES: [Damage; 27] = [
 
 /// One field, or several at once.
 fn fields(case: &mut Case, member: usize, random: &mut Random) {
-    case.spoil_fields(member, any_wrong(random), random);
+    let fits = case.any_wrong(member, random);
+    case.spoil_fields(member, fits, random);
 }
 
 /// A few bits of the data.
@@ -407,6 +461,42 @@ fn torn_unnoticed(case: &mut Case, member: usize, random: &mut Random) {
     case.tag_again(member);
 }
 
+/// A block updated, of which the data or the parity was not written; the new data are any, or the old ones with a byte changed.
+fn update_cut(case: &mut Case, _: usize, random: &mut Random) {
+    let parity = case.array.parity_member(case.stripe);
+    let index = random.below(case.array.data_members());
+    let member = index + usize::from(index >= parity);
+    let mut data = case.block(member)[..DATA].to_vec();
+    match random.below(2) {
+        0 => random.fill(&mut data),
+        _ => data[random.below(DATA)] ^= random.between(1, 255) as u8,
+    }
+    let block = case.stripe * case.array.data_members() as u64 + index as u64;
+    if let Ok(updated) = stripe::update(&case.array, block, &data, &case.bytes) {
+        let written = stripe::span(random.pick(&[member, parity]));
+        case.bytes[written.clone()].copy_from_slice(&updated[written]);
+    }
+}
+
+fn parity_guard(case: &mut Case, _: usize, random: &mut Random) {
+    case.tear_guards(random);
+}
+
+/// The parity's guard as that of its own data.
+fn parity_guard_own(case: &mut Case, _: usize, _: &mut Random) {
+    let (array, parity) = (case.array, case.array.parity_member(case.stripe));
+    let guard = guard_of(&array, &case.block(parity)[..DATA]);
+    case.put_guard(parity, guard);
+}
+
+/// A word of zeros made ones, which no checksum notices, or any other made zeros.
+fn turned_word(case: &mut Case, member: usize, random: &mut Random) {
+    let place = 2 * random.below(DATA / 2);
+    let word = &mut case.block(member)[place..place + 2];
+    let zeros = word == [0; 2];
+    word.fill(if zeros { 0xFF } else { 0x00 });
+}
+
 /// Reference, application and guard in the wrong order.
 fn fields_reversed(case: &mut Case, member: usize, _: &mut Random) {
     let tag = case.block(member)[DATA..].to_vec();
@@ -417,7 +507,17 @@ fn fields_reversed(case: &mut Case, member: usize, _: &mut Random) {
 fn guard_from_ones(case: &mut Case, member: usize, _: &mut Random) {
     let block = case.block(member);
     let guard = guard::go_on(0xFFFF, &block[..DATA]);
-    block[512..514].copy_from_slice(&guard.to_be_bytes());
+    block[GUARD].copy_from_slice(&guard.to_be_bytes());
+}
+
+fn guard_of_other_method(case: &mut Case, member: usize, _: &mut Random) {
+    let method = 3 - case.array.method;
+    let other = Array {
+        method,
+        ..case.array
+    };
+    let guard = guard_of(&other, &case.block(member)[..DATA]);
+    case.put_guard(member, guard);
 }
 
 /// The parity's tag as the exclusive-or of the other tags.

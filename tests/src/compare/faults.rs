@@ -3,9 +3,8 @@
 use super::cases::{self, Case};
 use super::{Outcome, Tally, all_named, known, standing, tag};
 use crate::random::Random;
-use model::guard::guard;
 use model::layout::{Array, Owner};
-use model::stripe::{self, Checked, DATA, Field, Fields, Fits, Verdict};
+use model::stripe::{self, Checked, DATA, Field, Fields, Fits, Verdict, guard_of, is_combined};
 
 /// How often the cases are tried for each number of members.
 const TIMES: usize = 20;
@@ -23,7 +22,7 @@ const REFERENCE: Fits = Fits {
     ..Fits::ALL
 };
 
-/// The block of a member: what stands in its fields, and what is due there.
+/// The block of a member: what stands in its fields, and what is due there. A guard that nobody checks is expected as found.
 fn fields(case: &Case, member: usize) -> Fields {
     let block = &case.bytes[stripe::span(member)];
     let (kind, number) = match case.array.row(case.stripe)[member] {
@@ -31,10 +30,14 @@ fn fields(case: &Case, member: usize) -> Fields {
         Owner::Data { block } => (0x0000, block),
     };
     let word = |at: usize| u64::from(u16::from_be_bytes([block[at], block[at + 1]]));
+    let own = u64::from(guard_of(&case.array, &block[..DATA]));
     Fields {
         guard: Field {
             found: word(512),
-            expected: u64::from(guard(&block[..DATA])),
+            expected: match is_combined(&case.array, case.stripe, member) {
+                true => word(512),
+                false => own,
+            },
         },
         application: Field {
             found: word(514),
@@ -112,19 +115,30 @@ impl<'a> Faults<'a> {
         (0..self.sealed.array.members).try_for_each(|member| told(&self.sealed, member, Fits::ALL))
     }
 
-    /// Data changed within sixteen successive bits: the guard as stored is found, that of the new data expected.
+    /// Data changed within sixteen successive bits, or by method 2 within an aligned word, zeros not turned into ones nor back: the guard as stored
+    /// is found, that of the new data expected. Of the parity of method 2 only the whole stripe tells.
     fn changed_data(&mut self, member: usize, random: &mut Random) -> Outcome<()> {
         let mut case = self.sealed.clone();
-        let (from, bits) = (random.below(8 * DATA - 15), random.between(1, 65_535));
+        let (from, bits) = match case.array.method {
+            1 => (random.below(8 * DATA - 15), random.between(1, 65_535)),
+            _ => (16 * random.below(DATA / 2), random.between(1, 65_534)),
+        };
         for place in (0..16).filter(|place| bits >> place & 1 == 1) {
             let bit = from + place;
             case.block(member)[bit / 8] ^= 0x80 >> (bit % 8);
         }
         let [before, after] = [&self.sealed, &case].map(|case| fields(case, member).guard);
+        let combined = is_combined(&case.array, case.stripe, member);
         known(
-            (before.found, true),
+            (before.found, !combined),
             (after.found, after.expected != after.found),
         )?;
+        if combined {
+            told(&case, member, Fits::ALL)?;
+            let first = from + bits.trailing_zeros() as usize;
+            let due = Verdict::Torn { place: first / 8 };
+            return standing::verdict(&case, due, random, self.tally);
+        }
         self.just(&case, &[(member, GUARD)], random)
     }
 
@@ -141,7 +155,8 @@ impl<'a> Faults<'a> {
         let mut case = self.sealed.clone();
         let stripe = case.stripe + case.array.members as u64 * random.between(1, 3);
         let data = random.bytes(DATA);
-        let block = stripe::tagged(&case.array, stripe, member, &data);
+        let guard = guard_of(&case.array, &data);
+        let block = stripe::tagged(&case.array, stripe, member, &data, guard);
         case.block(member).copy_from_slice(&block);
         self.just(&case, &[(member, REFERENCE)], random)
     }
@@ -153,13 +168,15 @@ impl<'a> Faults<'a> {
             volume: case.array.volume ^ random.between(1, 255) as u8,
             ..case.array
         };
+        let guard = case.stored_guard(member);
         let data = case.block(member)[..DATA].to_vec();
-        let block = stripe::tagged(&other, case.stripe, member, &data);
+        let block = stripe::tagged(&other, case.stripe, member, &data, guard);
         case.block(member).copy_from_slice(&block);
         self.just(&case, &[(member, APPLICATION)], random)
     }
 
-    /// Parity and data exchanged: guards fit, kinds do not, and numbers only where the block is the lowest of its stripe.
+    /// Parity and data exchanged: guards fit, kinds do not, and numbers only where the block is the lowest of its stripe. By method 2 what the guards
+    /// combine to is hardly the guard of the parity's data.
     fn exchanged(&mut self, member: usize, random: &mut Random) -> Outcome<()> {
         let mut case = self.sealed.clone();
         let parity = self.parity;
@@ -170,12 +187,18 @@ impl<'a> Faults<'a> {
             reference: member == if parity == 0 { 1 } else { 0 },
             ..APPLICATION
         };
-        self.just(&case, &[(member, fits), (parity, fits)], random)
+        let guard = guard_of(&case.array, &blocks[1][..DATA]) == self.sealed.stored_guard(parity);
+        known(true, guard || case.array.method == 2)?;
+        self.just(
+            &case,
+            &[(member, Fits { guard, ..fits }), (parity, fits)],
+            random,
+        )
     }
 
     /// Each set of faults by itself.
     fn each_set(&mut self, member: usize, random: &mut Random) -> Outcome<()> {
-        for number in 1..8 {
+        for number in 1..=self.sealed.ways_wrong(member) {
             let mut case = self.sealed.clone();
             let fits = cases::some_wrong(number);
             case.spoil_fields(member, fits, random);
@@ -201,7 +224,7 @@ impl<'a> Faults<'a> {
     fn below_unchecked(&mut self, random: &mut Random) -> Outcome<()> {
         let [low, high] = [self.one.min(self.other), self.one.max(self.other)];
         let mut case = self.sealed.clone();
-        let fits = cases::any_wrong(random);
+        let fits = case.any_wrong(high, random);
         case.mark(low, random);
         case.spoil_fields(high, fits, random);
         told(&case, high, fits)?;
@@ -214,13 +237,13 @@ impl<'a> Faults<'a> {
     /// A bad member of a torn stripe, all of whose other members are good.
     fn in_torn(&mut self, random: &mut Random) -> Outcome<()> {
         let mut case = self.sealed.clone();
-        let fits = cases::any_wrong(random);
+        let fits = case.any_wrong(self.one, random);
         case.tear(self.other, random.below(DATA), random);
         case.spoil_fields(self.one, fits, random);
         self.just(&case, &[(self.one, fits)], random)
     }
 
-    /// Every member wiped with zeros, whose guard is right.
+    /// Every member wiped with zeros, whose guard is right by method 1, and by method 2 nowhere but in the parity, where nobody checks it.
     fn wiped(&mut self, random: &mut Random) -> Outcome<()> {
         let mut case = self.sealed.clone();
         case.bytes.fill(0);
@@ -228,7 +251,10 @@ impl<'a> Faults<'a> {
             .map(|member| (member, fields(&case, member).fits()))
             .filter(|(_, fits)| *fits != Fits::ALL)
             .collect();
-        known(true, bad.iter().all(|(_, fits)| fits.guard))?;
+        let (method, parity) = (case.array.method, self.parity);
+        let right =
+            |(member, fits): &(usize, Fits)| fits.guard == (method == 1 || *member == parity);
+        known(true, bad.iter().all(right))?;
         self.just(&case, &bad, random)
     }
 }
@@ -240,8 +266,8 @@ fn cases_of(members: usize, random: &mut Random, tally: &mut Tally) -> Outcome<u
     let Faults { one, other, parity, .. } = on;
     let tried = [
         ("all good", on.all_good()),
-        ("data changed within sixteen bits", on.changed_data(one, random)),
-        ("parity changed within sixteen bits", on.changed_data(parity, random)),
+        ("data changed within sixteen bits or a word", on.changed_data(one, random)),
+        ("parity changed within sixteen bits or a word", on.changed_data(parity, random)),
         ("data on another member", on.on_other_member(random)),
         ("data of another stripe", on.of_other_stripe(one, random)),
         ("parity of another stripe", on.of_other_stripe(parity, random)),
@@ -268,11 +294,11 @@ pub fn compare(random: &mut Random) -> Outcome<String> {
         }
     }
     let calls = [
-        tally.of("scrub", "G-- -A- --R GA- G-R -AR GAR")?,
-        tally.of("finish", "G-- -A- --R GA- G-R -AR GAR")?,
+        tally.of_each("scrub", "G-- -A- --R GA- G-R -AR GAR")?,
+        tally.of_each("finish", "G-- -A- --R GA- G-R -AR GAR")?,
     ];
     Ok(format!(
-        "known beforehand in {tried} named cases, all fields of every block: {}",
+        "known beforehand by both methods in {tried} named cases, all fields of every block: {}",
         calls.join(", ")
     ))
 }

@@ -6,8 +6,8 @@ use super::{Outcome, Tally, VERDICTS, faults_name, tally};
 use crate::program::{self, Input};
 use crate::random::Random;
 use model::layout::Array;
-use model::report::{self, HEADER};
-use model::stripe::{self, BLOCK, DATA, Fits, Verdict};
+use model::report;
+use model::stripe::{self, APPLICATION, BLOCK, DATA, Fits, Verdict};
 use std::thread;
 use std::time::Duration;
 
@@ -21,32 +21,68 @@ const IMAGES: usize = 450;
 #[rustfmt::skip]
 const PLACES: [usize; 11] = [0, 1, DATA - 1, DATA, 513, 514, 515, 516, 517, 518, BLOCK - 1];
 
-/// Headers and the numbers of their refusals: where several numbers fit, 10 goes first, then 1.
+/// Headers and the numbers of their refusals: where several numbers fit, 10 goes first, then 1, then 2.
 #[rustfmt::skip]
-const REFUSED: [(u32, [u8; HEADER]); 22] = [
-    (10, [0, 6, 1, 3, 7, 0, 0, 0, 1]),
-    (10, [0, 8, 1, 3, 7, 0, 0, 0, 1]),
-    (10, [1, 7, 1, 3, 7, 0, 0, 0, 1]),
-    (10, [7, 0, 1, 3, 7, 0, 0, 0, 1]),
-    (10, [0, 9, 1, 3, 7, 0, 0, 0, 1]),
-    (10, [0, 7, 0, 3, 7, 0, 0, 0, 1]),
-    (10, [0, 7, 2, 3, 7, 0, 0, 0, 1]),
-    (10, [0, 7, 255, 3, 7, 0, 0, 0, 1]),
-    (10, [0, 8, 1, 2, 7, 0, 0, 0, 0]),
-    (10, [0, 7, 2, 17, 7, 255, 255, 255, 255]),
-    (1, [0, 7, 1, 0, 7, 0, 0, 0, 1]),
-    (1, [0, 7, 1, 1, 7, 0, 0, 0, 1]),
-    (1, [0, 7, 1, 2, 7, 0, 0, 0, 1]),
-    (1, [0, 7, 1, 17, 7, 0, 0, 0, 1]),
-    (1, [0, 7, 1, 131, 7, 0, 0, 0, 1]),
-    (1, [0, 7, 1, 255, 7, 0, 0, 0, 1]),
-    (1, [0, 7, 1, 2, 7, 0, 0, 0, 0]),
-    (1, [0, 7, 1, 17, 7, 16, 0, 0, 1]),
-    (2, [0, 7, 1, 3, 7, 0, 0, 0, 0]),
-    (2, [0, 7, 1, 3, 7, 16, 0, 0, 1]),
-    (2, [0, 7, 1, 16, 7, 128, 0, 0, 1]),
-    (2, [0, 7, 1, 5, 7, 255, 255, 255, 255]),
+const REFUSED: [(u32, &[u8]); 49] = [
+    (10, &[0, 6, 1, 3, 7, 0, 0, 0, 1]),
+    (10, &[0, 8, 1, 3, 7, 0, 0, 0, 1]),
+    (10, &[1, 7, 1, 3, 7, 0, 0, 0, 1]),
+    (10, &[7, 0, 1, 3, 7, 0, 0, 0, 1]),
+    (10, &[0, 9, 1, 3, 7, 0, 0, 0, 1]),
+    (10, &[0, 7, 0, 3, 7, 0, 0, 0, 1]),
+    (10, &[0, 7, 2, 3, 7, 0, 0, 0, 1]),
+    (10, &[0, 7, 3, 3, 7, 0, 0, 0, 1]),
+    (10, &[0, 7, 255, 3, 7, 0, 0, 0, 1]),
+    (10, &[0, 8, 1, 2, 7, 0, 0, 0, 0]),
+    (10, &[0, 7, 2, 17, 7, 255, 255, 255, 255]),
+    (10, &[0, 8, 1, 3, 7, 0, 0, 0, 1, 1]),
+    (10, &[0, 7, 2, 3, 7, 0, 0, 0, 1, 2]),
+    (10, &[0, 8, 0, 3, 7, 0, 0, 0, 1, 2]),
+    (10, &[0, 8, 3, 3, 7, 0, 0, 0, 1, 2]),
+    (10, &[0, 8, 255, 3, 7, 0, 0, 0, 1, 2]),
+    (10, &[1, 8, 2, 3, 7, 0, 0, 0, 1, 2]),
+    (10, &[8, 0, 2, 3, 7, 0, 0, 0, 1, 2]),
+    (10, &[0, 9, 2, 3, 7, 0, 0, 0, 1, 2]),
+    (10, &[0, 9, 3, 3, 7, 0, 0, 0, 1, 2, 1]),
+    (10, &[0, 9, 2, 2, 7, 0, 0, 0, 0, 3]),
+    (10, &[0, 10, 2, 3, 7, 0, 0, 0, 1, 2]),
+    (1, &[0, 7, 1, 0, 7, 0, 0, 0, 1]),
+    (1, &[0, 7, 1, 1, 7, 0, 0, 0, 1]),
+    (1, &[0, 7, 1, 2, 7, 0, 0, 0, 1]),
+    (1, &[0, 7, 1, 17, 7, 0, 0, 0, 1]),
+    (1, &[0, 7, 1, 131, 7, 0, 0, 0, 1]),
+    (1, &[0, 7, 1, 255, 7, 0, 0, 0, 1]),
+    (1, &[0, 7, 1, 2, 7, 0, 0, 0, 0]),
+    (1, &[0, 7, 1, 17, 7, 16, 0, 0, 1]),
+    (1, &[0, 8, 2, 2, 7, 0, 0, 0, 1, 1]),
+    (1, &[0, 8, 2, 17, 7, 0, 0, 0, 1, 2]),
+    (1, &[0, 8, 2, 2, 7, 0, 0, 0, 1, 3]),
+    (1, &[0, 8, 2, 17, 7, 0, 0, 0, 0, 0]),
+    (2, &[0, 7, 1, 3, 7, 0, 0, 0, 0]),
+    (2, &[0, 7, 1, 3, 7, 16, 0, 0, 1]),
+    (2, &[0, 7, 1, 16, 7, 128, 0, 0, 1]),
+    (2, &[0, 7, 1, 5, 7, 255, 255, 255, 255]),
+    (2, &[0, 8, 2, 3, 7, 0, 0, 0, 0, 2]),
+    (2, &[0, 8, 2, 3, 7, 16, 0, 0, 1, 1]),
+    (2, &[0, 8, 2, 3, 7, 0, 0, 0, 0, 0]),
+    (2, &[0, 8, 2, 16, 7, 16, 0, 0, 1, 255]),
+    (12, &[0, 8, 2, 3, 7, 0, 0, 0, 1, 0]),
+    (12, &[0, 8, 2, 3, 7, 0, 0, 0, 1, 3]),
+    (12, &[0, 8, 2, 5, 7, 0, 0, 0, 6, 4]),
+    (12, &[0, 8, 2, 16, 7, 16, 0, 0, 0, 129]),
+    (12, &[0, 8, 2, 16, 7, 0, 0, 0, 1, 130]),
+    (12, &[0, 8, 2, 3, 0, 0, 0, 0, 1, 254]),
+    (12, &[0, 8, 2, 3, 255, 0, 0, 0, 1, 255]),
 ];
+
+/// The header of an image, of a version that can say the method.
+fn any_version(array: &Array, random: &mut Random) -> Vec<u8> {
+    let version = match array.method {
+        1 => random.pick(&[1, 2]),
+        _ => 2,
+    };
+    report::header_of(version, array)
+}
 
 /// Writes an image in pieces that are random and small. Now and then it waits, so that the program reads less than it has room for.
 fn in_pieces(image: &[u8], input: &mut Input, random: &mut Random) -> Outcome<()> {
@@ -86,6 +122,7 @@ fn line_name(line: &str) -> &'static str {
         [_, "CLEAN"] => "clean",
         [_, "BAD", _, _, letters] => letters_name(letters),
         [_, "UNCHECKED", ..] => "unchecked",
+        [_, "TORN", "512"] => "512",
         [_, "TORN", _] => "torn",
         _ => panic!("the model wrote the line {line}"),
     }
@@ -123,7 +160,7 @@ impl Compared {
         compared
             .and_then(|((), found)| same_report(&due, &found))
             .map_err(|difference| {
-                let header = &image[..image.len().min(HEADER)];
+                let header = &image[..image.len().min(10)];
                 let length = image.len();
                 format!("{what}, {length} bytes, header {header:02X?}: {difference}")
             })?;
@@ -138,7 +175,7 @@ impl Compared {
     fn known(
         &mut self,
         what: &str,
-        (members, stripes): (usize, usize),
+        (members, method, stripes): (usize, u8, usize),
         random: &mut Random,
         mut damage: impl FnMut(&mut Case, &mut Random) -> Verdict,
     ) -> Outcome<()> {
@@ -146,8 +183,9 @@ impl Compared {
             members,
             stripes: stripes as u64,
             volume: cases::any_volume(random),
+            method,
         };
-        let mut image = report::header(&array).to_vec();
+        let mut image = any_version(&array, random);
         for stripe in 0..array.stripes {
             let mut case = Case::sealed(array, stripe, random);
             let known = damage(&mut case, random);
@@ -181,7 +219,8 @@ fn set_apart(case: &mut Case, kind: Standing, set: u64, random: &mut Random) -> 
 fn any_verdict(case: &mut Case, random: &mut Random) -> Verdict {
     let members = case.array.members;
     let set = random.between(1, (1 << members) - 1);
-    match random.below(5) {
+    match random.below(6) {
+        5 if case.array.method == 2 => case.tear_guards(random),
         0 => Verdict::Clean,
         1 => set_apart(case, Standing::Bad, set, random),
         2 => set_apart(case, Standing::Unchecked, set, random),
@@ -190,79 +229,87 @@ fn any_verdict(case: &mut Case, random: &mut Random) -> Verdict {
     }
 }
 
+/// One byte of the stripe changed, another in each: its member is bad, or, where nobody checks the guard that it belongs to, the stripe is torn.
+fn one_byte(case: &mut Case, random: &mut Random) -> Verdict {
+    let number = case.stripe as usize;
+    let (member, place) = (number / PLACES.len(), PLACES[number % PLACES.len()]);
+    case.spoil(member, place, random);
+    if stripe::is_combined(&case.array, case.stripe, member) && place < APPLICATION.start {
+        let place = place.min(DATA);
+        return Verdict::Torn { place };
+    }
+    let fits = Fits {
+        guard: place >= APPLICATION.start,
+        application: !APPLICATION.contains(&place),
+        reference: place < APPLICATION.end,
+    };
+    Verdict::Bad {
+        member,
+        count: 1,
+        fits,
+    }
+}
+
+/// Each set of faults that a member can have, one after the other.
+fn one_set(case: &mut Case, random: &mut Random) -> Verdict {
+    let (member, number) = (case.stripe as usize / 7, case.stripe as usize % 7);
+    let fits = cases::some_wrong(1 + number % case.ways_wrong(member));
+    case.spoil_fields(member, fits, random);
+    Verdict::Bad {
+        member,
+        count: 1,
+        fits,
+    }
+}
+
 /// Clean, bad, unchecked, torn and mixed images.
-fn verdicts(members: usize, compared: &mut Compared, random: &mut Random) -> Outcome<()> {
-    compared.known("clean", (members, 40), random, |_, _| Verdict::Clean)?;
+fn verdicts(
+    members: usize,
+    method: u8,
+    compared: &mut Compared,
+    random: &mut Random,
+) -> Outcome<()> {
+    let of = |stripes| (members, method, stripes);
+    compared.known("clean", of(40), random, |_, _| Verdict::Clean)?;
     let bytes = members * PLACES.len();
-    compared.known("one bad byte", (members, bytes), random, |case, random| {
-        let (member, place) = (
-            case.stripe as usize / PLACES.len(),
-            case.stripe as usize % PLACES.len(),
-        );
-        case.spoil(member, PLACES[place], random);
-        let fits = Fits {
-            guard: PLACES[place] >= 514,
-            application: ![514, 515].contains(&PLACES[place]),
-            reference: PLACES[place] < 516,
-        };
-        Verdict::Bad {
-            member,
-            count: 1,
-            fits,
-        }
-    })?;
-    compared.known(
-        "each set of faults",
-        (members, 7 * members),
-        random,
-        |case, random| {
-            let (member, number) = (case.stripe as usize / 7, case.stripe as usize % 7);
-            let fits = cases::some_wrong(1 + number);
-            case.spoil_fields(member, fits, random);
-            Verdict::Bad {
-                member,
-                count: 1,
-                fits,
-            }
-        },
-    )?;
+    compared.known("one bad byte", of(bytes), random, one_byte)?;
+    compared.known("each set of faults", of(7 * members), random, one_set)?;
     if members <= 5 {
         let sets = (1 << members) - 1;
-        compared.known("each set bad", (members, sets), random, |case, random| {
+        compared.known("each set bad", of(sets), random, |case, random| {
             set_apart(case, Standing::Bad, case.stripe + 1, random)
         })?;
         let ways = standing::ways(members);
-        compared.known(
-            "each way to stand",
-            (members, ways),
-            random,
-            |case, random| stand(case, case.stripe as usize, random),
-        )?;
+        compared.known("each way to stand", of(ways), random, |case, random| {
+            stand(case, case.stripe as usize, random)
+        })?;
     }
     for (what, kind) in [
         ("some bad", Standing::Bad),
         ("some unchecked", Standing::Unchecked),
     ] {
-        compared.known(what, (members, 100), random, |case, random| {
+        compared.known(what, of(100), random, |case, random| {
             set_apart(case, kind, random.between(1, (1 << members) - 1), random)
         })?;
     }
-    compared.known(
-        "one unchecked",
-        (members, members),
-        random,
-        |case, random| set_apart(case, Standing::Unchecked, 1 << case.stripe, random),
-    )?;
-    compared.known("torn", (members, DATA), random, |case, random| {
+    compared.known("one unchecked", of(members), random, |case, random| {
+        set_apart(case, Standing::Unchecked, 1 << case.stripe, random)
+    })?;
+    compared.known("torn", of(DATA), random, |case, random| {
         let member = random.below(members);
         case.tear(member, case.stripe as usize, random)
     })?;
-    compared.known("mixed", (members, 100), random, any_verdict)
+    if method == 2 {
+        compared.known("torn by guards", of(40), random, |case, random| {
+            case.tear_guards(random)
+        })?;
+    }
+    compared.known("mixed", of(100), random, any_verdict)
 }
 
 /// An image of some stripes, good and damaged.
 fn any_image(array: &Array, random: &mut Random) -> Vec<u8> {
-    let mut image = report::header(array).to_vec();
+    let mut image = any_version(array, random);
     for stripe in 0..array.stripes {
         image.extend(Case::any(*array, stripe, random).bytes);
     }
@@ -270,19 +317,29 @@ fn any_image(array: &Array, random: &mut Random) -> Vec<u8> {
 }
 
 /// Images that end too early, at every kind of place, or too late.
-fn ends(members: usize, compared: &mut Compared, random: &mut Random) -> Outcome<()> {
+fn ends(
+    members: usize,
+    (version, method): (u8, u8),
+    compared: &mut Compared,
+    random: &mut Random,
+) -> Outcome<()> {
     let array = Array {
         members,
         stripes: 3,
         volume: random.next() as u8,
+        method,
     };
     let length = members * BLOCK;
-    let image = any_image(&array, random);
-    for cut in 0..=HEADER {
+    let mut image = report::header_of(version, &array);
+    let header = image.len();
+    for stripe in 0..array.stripes {
+        image.extend(Case::any(array, stripe, random).bytes);
+    }
+    for cut in 0..=header {
         compared.compare("cut in its header or after it", &image[..cut], random)?;
     }
     for stripe in [0, 1, 2] {
-        let begin = HEADER + stripe * length;
+        let begin = header + stripe * length;
         for more in [1, DATA - 1, DATA, BLOCK - 1, BLOCK, BLOCK + 1, length - 1] {
             compared.compare("cut in a stripe", &image[..begin + more], random)?;
         }
@@ -290,7 +347,7 @@ fn ends(members: usize, compared: &mut Compared, random: &mut Random) -> Outcome
         compared.compare("cut in a stripe", &image[..cut], random)?;
     }
     for stripes in [1, 2] {
-        let cut = HEADER + stripes * length;
+        let cut = header + stripes * length;
         compared.compare("cut at a stripe's end", &image[..cut], random)?;
     }
     compared.compare("whole", &image, random)?;
@@ -315,18 +372,59 @@ fn refused_headers(compared: &mut Compared, random: &mut Random) -> Outcome<()> 
     Ok(())
 }
 
+/// Every version with the length of each that there is, and every method, before a stripe sealed by method 1 or 2. What is due is known.
+fn every_number(compared: &mut Compared, random: &mut Random) -> Outcome<()> {
+    let array = Array {
+        stripes: 1,
+        ..any_array(random)
+    };
+    let stripe = Case::sealed(array, 0, random).bytes;
+    let members = array.members as u8;
+    for number in 0..=u8::MAX {
+        let versions = [7, 8].map(|length| {
+            let refused = match (number, length) {
+                (1, 7) => None,
+                (2, 8) => Some(12),
+                _ => Some(10),
+            };
+            (
+                [0, length, number, members, array.volume, 0, 0, 0, 1, 0],
+                refused,
+            )
+        });
+        let refused = (![1, 2].contains(&number)).then_some(12);
+        let method = (
+            [0, 8, 2, members, array.volume, 0, 0, 0, 1, number],
+            refused,
+        );
+        for (header, refused) in versions.into_iter().chain([method]) {
+            let image = [&header[..], &stripe].concat();
+            if let Some(refused) = refused {
+                same_report(&format!("REFUSED {refused}\n"), &report::report(&image))
+                    .map_err(|difference| format!("the model at {header:02X?}: {difference}"))?;
+            }
+            compared.compare("every number", &image, random)?;
+        }
+    }
+    Ok(())
+}
+
 /// A header in which one or two fields are others; now and then it is cut, or something follows.
 fn any_header(compared: &mut Compared, random: &mut Random) -> Outcome<()> {
-    let mut image = report::header(&any_array(random)).to_vec();
+    let mut image = any_version(&any_array(random), random);
+    let header = image.len();
     for _ in 0..random.between(1, 2) {
-        let place = random.pick(&[0, 1, 2, 3, 3, 5, 5]);
+        let place = random.pick(&[0, 1, 2, 3, 3, 5, 5, header - 1, header - 1]);
         image[place] = random.next() as u8;
     }
-    if random.one_in(8) {
-        image[HEADER - 1] = 0;
+    match random.below(24) {
+        0..3 => image[8] = 0,
+        3 => image[1] = 15u8.wrapping_sub(image[1]),
+        4 => image[2] = 3 - image[2].min(3),
+        _ => {}
     }
     match random.below(4) {
-        0 => image.truncate(random.below(HEADER)),
+        0 => image.truncate(random.below(header)),
         1 => {
             let more = random.below(2_000);
             image.extend(random.bytes(more));
@@ -342,6 +440,7 @@ fn any_array(random: &mut Random) -> Array {
         members: random.pick(&[3, 5, 16, any]),
         stripes: random.between(1, 8),
         volume: random.next() as u8,
+        method: random.pick(&cases::METHODS),
     }
 }
 
@@ -357,8 +456,7 @@ fn any_stripes(compared: &mut Compared, random: &mut Random) -> Outcome<()> {
         }
         2 => {
             let stripes = random.pick(&[1, 2, 9, 65_536, 65_537, 268_435_456]);
-            let other = Array { stripes, ..array };
-            image[..HEADER].copy_from_slice(&report::header(&other));
+            image[5..9].copy_from_slice(&u32::to_be_bytes(stripes));
         }
         _ => {}
     }
@@ -369,9 +467,14 @@ pub fn compare(random: &mut Random) -> Outcome<String> {
     let mut compared = Compared::default();
     compared.compare("empty", &[], random)?;
     refused_headers(&mut compared, random)?;
+    every_number(&mut compared, random)?;
     for members in MEMBERS {
-        verdicts(members, &mut compared, random)?;
-        ends(members, &mut compared, random)?;
+        for method in cases::METHODS {
+            verdicts(members, method, &mut compared, random)?;
+        }
+        for said in [(1, 1), (2, 1), (2, 2)] {
+            ends(members, said, &mut compared, random)?;
+        }
     }
     for _ in 0..HEADERS {
         any_header(&mut compared, random)?;
@@ -380,10 +483,10 @@ pub fn compare(random: &mut Random) -> Outcome<String> {
         any_stripes(&mut compared, random)?;
     }
     Ok(format!(
-        "{} alike, through a pipe in small writes: {}",
+        "{} of both versions alike, through a pipe in small writes: {}",
         compared.images,
         compared
             .lines
-            .of("lines", &format!("{VERDICTS} total 1 2 10 11"))?
+            .of("lines", &format!("{VERDICTS} 512 total 1 2 10 11 12"))?
     ))
 }

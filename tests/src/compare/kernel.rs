@@ -70,7 +70,7 @@ fn due(array: &Array, place: Place, bytes: &[u8], fits: Fits) -> Outcome<()> {
 }
 
 /// At every other place of the stripe, of its neighbours and of those a turn of the parity away, the kind or the number is wrong, or both;
-/// for every other volume just that is.
+/// for every other volume just that is, and by the checksum just the guard.
 fn elsewhere(array: &Array, place: Place, bytes: &[u8], seen: &mut Seen) -> Outcome<()> {
     let turn = array.members as i64;
     let near = [-turn, -1, 0, 1, turn].map(|far| place.stripe.checked_add_signed(far));
@@ -100,6 +100,16 @@ fn elsewhere(array: &Array, place: Place, bytes: &[u8], seen: &mut Seen) -> Outc
         due(&other, place, bytes, fits)?;
         seen.elsewhere += 1;
     }
+    let summed = Array {
+        method: 2,
+        ..*array
+    };
+    let fits = Fits {
+        guard: false,
+        ..Fits::ALL
+    };
+    due(&summed, place, bytes, fits)?;
+    seen.elsewhere += 1;
     Ok(())
 }
 
@@ -140,6 +150,7 @@ fn arrays() -> impl Iterator<Item = Array> {
         members,
         stripes: STRIPES,
         volume: VOLUME,
+        method: 1,
     })
 }
 

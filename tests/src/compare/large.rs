@@ -1,12 +1,12 @@
 //! The report program on images much larger than its buffers, made while they are fed: nothing is lost at a buffer's edge, and memory stays flat.
 
 use super::Outcome;
-use super::cases::Case;
+use super::cases::{Case, METHODS};
 use super::images::same_report;
 use crate::program::{self, Input};
 use crate::random::Random;
 use model::layout::Array;
-use model::report::{self, HEADER, Report};
+use model::report::{self, Report};
 use model::stripe::BLOCK;
 use std::env;
 use std::fs::{self, File};
@@ -14,8 +14,8 @@ use std::io::{self, BufRead, BufReader, BufWriter, Write};
 use std::process::{self, ChildStdout};
 use std::sync::mpsc::{self, Receiver, Sender};
 
-/// The shortest length of the image that goes through a pipe, and of the one that is read from a file.
-const PIPED: usize = 256 << 20;
+/// The shortest length of an image that goes through a pipe, and of one that is read from a file.
+const PIPED: usize = 128 << 20;
 const FILED: usize = 8 << 20;
 /// The program's input buffer is this long.
 const BUFFER: usize = 64 << 10;
@@ -32,12 +32,13 @@ struct Stripes {
 
 impl Stripes {
     /// Stripes of three members, so that there are many; together at least so many bytes.
-    fn of(length: usize, random: &mut Random) -> Self {
+    fn of(length: usize, method: u8, random: &mut Random) -> Self {
         let members = 3;
         let array = Array {
             members,
             stripes: length.div_ceil(members * BLOCK) as u64,
             volume: random.next() as u8,
+            method,
         };
         Stripes {
             array,
@@ -61,7 +62,7 @@ impl Iterator for Stripes {
             case.damage(random);
         }
         let length = case.bytes.len();
-        let begin = HEADER + self.next as usize * length;
+        let begin = report::header(&self.array).len() + self.next as usize * length;
         let edge = begin.next_multiple_of(BUFFER);
         let sides = random.pick(&[&[0, 1][..], &[0], &[1], &[]]);
         for side in sides {
@@ -99,7 +100,7 @@ fn feed(
             .map_err(|_| String::from("no line is awaited"))
     };
     let mut report = Report::open(stripes.array);
-    let mut waiting = report::header(&stripes.array).to_vec();
+    let mut waiting = report::header(&stripes.array);
     tell(report.first_line())?;
     let (mut length, mut written, mut early) = (1, 0, None);
     for stripe in stripes {
@@ -143,9 +144,14 @@ fn judge(output: ChildStdout, due: Receiver<String>) -> Outcome<String> {
     }
 }
 
-fn piped(random: &mut Random) -> Outcome<String> {
-    let stripes = Stripes::of(PIPED, random);
-    let length = HEADER + stripes.array.stripes as usize * stripes.array.members * BLOCK;
+fn piped(method: u8, random: &mut Random) -> Outcome<String> {
+    let stripes = Stripes::of(PIPED, method, random);
+    let Array {
+        members,
+        stripes: number,
+        ..
+    } = stripes.array;
+    let length = report::header(&stripes.array).len() + number as usize * members * BLOCK;
     let (sender, receiver) = mpsc::channel();
     let (Peaks { early, late }, total) = program::piped(
         |input| feed(stripes, sender, input, random),
@@ -173,8 +179,8 @@ fn unnamed_file(fill: impl FnOnce(&mut dyn Write) -> io::Result<()>) -> io::Resu
 }
 
 /// From a file every read fills the program's input buffer, so that its edges are those at which the damage lies.
-fn filed(random: &mut Random) -> Outcome<String> {
-    let stripes = Stripes::of(FILED, random);
+fn filed(method: u8, random: &mut Random) -> Outcome<String> {
+    let stripes = Stripes::of(FILED, method, random);
     let mut report = Report::open(stripes.array);
     let mut due = report.first_line();
     let file = unnamed_file(|file| {
@@ -193,5 +199,9 @@ fn filed(random: &mut Random) -> Outcome<String> {
 }
 
 pub fn compare(random: &mut Random) -> Outcome<String> {
-    Ok(format!("{}; {}", piped(random)?, filed(random)?))
+    let both = METHODS.map(|method| -> Outcome<String> {
+        let (piped, filed) = (piped(method, random)?, filed(method, random)?);
+        Ok(format!("method {method}: {piped}; {filed}"))
+    });
+    Ok(both.into_iter().collect::<Outcome<Vec<_>>>()?.join("; "))
 }

@@ -43,7 +43,7 @@ fn place(array: &Array, block: u64, tally: &mut Tally) -> Outcome<()> {
             Err(_) => Ok(()),
         })
         .map_err(|difference| format!("place of block {block} in {array:?}: {difference}"))?;
-    tally.add("place", done_name(&answer));
+    tally.add_by(array.method, "place", done_name(&answer));
     Ok(())
 }
 
@@ -64,7 +64,8 @@ fn owner(array: &Array, stripe: u64, member: usize, tally: &mut Tally) -> Outcom
     .map_err(|difference| {
         format!("owner of stripe {stripe}, member {member} in {array:?}: {difference}")
     })?;
-    tally.add(
+    tally.add_by(
+        array.method,
         "owner",
         match answer {
             Ok(Owner::Parity { .. }) => "parity",
@@ -139,13 +140,16 @@ pub fn compare(random: &mut Random) -> Outcome<String> {
     let mut tally = Tally::default();
     for members in (3..=20).chain(cases::FAR_MEMBERS) {
         for stripes in cases::STRIPES.into_iter().chain(cases::FAR_STRIPES) {
-            let volume = random.next() as u8;
-            let array = Array {
-                members,
-                stripes,
-                volume,
-            };
-            edges(&array, &mut tally)?;
+            let far = random.pick(&cases::FAR_METHODS);
+            for method in cases::METHODS.into_iter().chain([far]) {
+                let array = Array {
+                    members,
+                    stripes,
+                    volume: random.next() as u8,
+                    method,
+                };
+                edges(&array, &mut tally)?;
+            }
         }
     }
     for _ in 0..RANDOM {
@@ -157,16 +161,22 @@ pub fn compare(random: &mut Random) -> Outcome<String> {
     let mut places = 0;
     for members in 3..=16 {
         for stripes in 1..=2 * members as u64 + 1 {
-            places += filled(&Array {
-                members,
-                stripes,
-                volume: 0,
-            })?;
+            for method in cases::METHODS {
+                places += filled(&Array {
+                    members,
+                    stripes,
+                    volume: 0,
+                    method,
+                })?;
+            }
         }
+    }
+    for call in ["place", "owner"] {
+        tally.of(call, "12")?;
     }
     Ok(format!(
         "calls alike, both ways: {}, {}; {places} places of small arrays filled once each",
-        tally.of("place", "done 1 2 3")?,
-        tally.of("owner", "data parity 1 2 3 5")?
+        tally.of_each("place", "done 1 2 3")?,
+        tally.of_each("owner", "data parity 1 2 3 5")?
     ))
 }

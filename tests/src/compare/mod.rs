@@ -1,6 +1,7 @@
 //! Comparisons of the library and the report program with the model.
 
 pub mod cases;
+pub mod checksum;
 pub mod faults;
 pub mod guard;
 pub mod images;
@@ -14,10 +15,11 @@ pub mod standing;
 pub mod stripe;
 pub mod tag;
 mod tally;
+pub mod write_hole;
 
 use crate::library;
 use model::Answer;
-use model::stripe::{Fits, Verdict};
+use model::stripe::{DATA, Fits, Verdict};
 use std::fmt::Debug;
 use tally::Tally;
 
@@ -78,7 +80,7 @@ fn verdict_numbers(answer: &Answer<Verdict>) -> library::Verdict {
     }
 }
 
-/// Every verdict by its name, a bad one for each set of faults.
+/// Every verdict of both methods by its name, a bad one for each set of faults. Method 2 has one more, by the name of 512: torn by its guards alone.
 const VERDICTS: &str = "clean G-- -A- --R GA- G-R -AR GAR unchecked torn";
 
 /// The wrong fields by their letters, for the tally.
@@ -100,6 +102,7 @@ fn verdict_name(answer: &Answer<Verdict>) -> &'static str {
     match answer {
         Ok(Verdict::Clean) => "clean",
         Ok(Verdict::Bad { fits, .. }) => faults_name(*fits),
+        Ok(Verdict::Torn { place: DATA }) => "512",
         Ok(Verdict::Torn { .. }) => "torn",
         Ok(Verdict::Unchecked { .. }) => "unchecked",
         Err(number) => tally::refused(*number),

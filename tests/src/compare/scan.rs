@@ -1,7 +1,9 @@
 //! The scrub in pieces: lists of calls against a history, and single calls from states that no start gives.
 
 use super::cases::{self, Case};
-use super::{Outcome, Tally, VERDICTS, done_name, refusal, same, verdict_name, verdict_numbers};
+use super::{
+    Outcome, Tally, VERDICTS, done_name, known, refusal, same, verdict_name, verdict_numbers,
+};
 use crate::lent::{Lent, between_margins};
 use crate::library::{self, Taken};
 use crate::random::Random;
@@ -11,6 +13,8 @@ use model::stripe::{self, BLOCK, DATA, UNCHECKED};
 
 const LISTS: usize = 50_000;
 const STATES: usize = 100_000;
+/// How many stripes come in pieces of odd lengths alone.
+const ODD: usize = 1_500;
 /// No cut is longer.
 const LONGEST: usize = 600;
 
@@ -26,7 +30,7 @@ fn start(array: &Array, stripe: u64, work: &mut Lent<u8>, tally: &mut Tally) -> 
     same(Taken { refusal, state }, taken)
         .and_then(|()| work.holds("work", due))
         .map_err(|difference| format!("start of stripe {stripe} in {array:?}: {difference}"))?;
-    tally.add("start", done_name(&answer));
+    tally.add_by(array.method, "start", done_name(&answer));
     Ok(taken)
 }
 
@@ -61,7 +65,7 @@ fn piece(
             bytes.len()
         )
     })?;
-    tally.add("piece", done_name(&answer));
+    tally.add_by(state.method, "piece", done_name(&answer));
     Ok(taken)
 }
 
@@ -72,7 +76,7 @@ fn finish(state: Scan, work: &Lent<u8>, tally: &mut Tally) -> Outcome<library::V
     same(verdict_numbers(&answer), verdict)
         .and_then(|()| work.holds("work", &before))
         .map_err(|difference| format!("finish at {state:?}: {difference}"))?;
-    tally.add("finish", verdict_name(&answer));
+    tally.add_by(state.method, "finish", verdict_name(&answer));
     Ok(verdict)
 }
 
@@ -179,6 +183,116 @@ pub fn scanned(case: &Case, random: &mut Random, tally: &mut Tally) -> Outcome<l
     list.finish(tally)
 }
 
+/// A stripe of a method, good or damaged, whose scan is begun.
+fn begun(method: u8, random: &mut Random, tally: &mut Tally) -> Outcome<List> {
+    let array = Array {
+        method,
+        ..cases::array(random)
+    };
+    let case = Case::any(array, cases::stripe_of(&array, random), random);
+    List::over(&case, random, tally)
+}
+
+/// One member's block in two pieces, and each of the others in one.
+fn cut_once(method: u8, cut: usize, random: &mut Random, tally: &mut Tally) -> Outcome<()> {
+    let mut list = begun(method, random, tally)?;
+    let in_two = random.below(list.array.members);
+    for member in 0..list.array.members {
+        let block = list.blocks[stripe::span(member)].to_vec();
+        let (first, second) = block.split_at(if member == in_two { cut } else { BLOCK });
+        for piece in [first, second] {
+            list.piece(member, piece, tally)?;
+            list.holds()?;
+        }
+    }
+    list.finish(tally)?;
+    Ok(())
+}
+
+/// All blocks in pieces of odd lengths, but for what is left at the end of one.
+fn oddly(method: u8, random: &mut Random, tally: &mut Tally) -> Outcome<()> {
+    let mut list = begun(method, random, tally)?;
+    let longest = random.pick(&[2, 20, BLOCK]);
+    while !list.is_whole() {
+        let member = random.below(list.array.members);
+        let rest = &list.blocks[stripe::span(member)][list.history.position(member)..];
+        let length = 2 * random.below(longest / 2) + 1;
+        let piece = rest[..length.min(rest.len())].to_vec();
+        list.piece(member, &piece, tally)?;
+    }
+    list.holds()?;
+    list.finish(tally)?;
+    Ok(())
+}
+
+/// A member at a position, and a byte that waits there: in the first n members it can wait only by method 2, after an odd number of data bytes.
+fn waiting(
+    (method, at, byte): (u8, usize, u8),
+    inside: bool,
+    random: &mut Random,
+    tally: &mut Tally,
+) -> Outcome<()> {
+    let array = Array {
+        method,
+        members: random.between(3, 15) as usize,
+        ..cases::array(random)
+    };
+    let member = match inside {
+        true => random.below(array.members),
+        false => random.between(array.members as u64, 15) as usize,
+    };
+    let stripe = cases::stripe_of(&array, random);
+    let (mut state, _) = scan::start(&array, stripe, &[0; DATA]).expect("a start that is fit");
+    state.at = [BLOCK as u16; 16];
+    state.at[member] = at as u16;
+    state.waiting[member] = byte;
+    let can_wait = method == 2 && at < DATA && at % 2 == 1;
+    let (piece_due, finish_due) = match (inside, at) {
+        (false, _) => (0, 0),
+        (true, BLOCK) if byte == 0 => (0, 0),
+        (true, ..BLOCK) if byte == 0 || can_wait => (0, 8),
+        _ => (4, 4),
+    };
+    let mut work = Lent::new(&random.bytes(DATA));
+    let of_model = [
+        refusal(&scan::piece(&state, 0, &[], work.contents())),
+        refusal(&scan::finish(&state, work.contents())),
+    ];
+    known([piece_due, finish_due], of_model)?;
+    finish(state, &work, tally)?;
+    piece(state, random.below(array.members), &[], &mut work, tally)?;
+    Ok(())
+}
+
+/// Each place of a cut, stripes in odd pieces, and each position with and without a byte that waits, by each method; how many of each.
+fn named(random: &mut Random, tally: &mut Tally) -> Outcome<[usize; 3]> {
+    let mut tried = [0; 3];
+    for method in cases::METHODS {
+        for cut in 0..=BLOCK {
+            cut_once(method, cut, random, tally)
+                .map_err(|difference| format!("method {method}, cut at {cut}: {difference}"))?;
+            tried[0] += 1;
+        }
+        for _ in 0..ODD {
+            oddly(method, random, tally)
+                .map_err(|difference| format!("method {method}, odd pieces: {difference}"))?;
+            tried[1] += 1;
+        }
+        for at in 0..=BLOCK + 2 {
+            for (byte, inside) in [0x00, 0x01, 0x80, 0xFF]
+                .into_iter()
+                .flat_map(|byte| [(byte, true), (byte, false)])
+            {
+                waiting((method, at, byte), inside, random, tally).map_err(|difference| {
+                    format!("method {method}, {byte:02X} waits at {at}: {difference}")
+                })?;
+                tried[2] += 1;
+            }
+        }
+    }
+    Ok(tried)
+}
+
 /// How long the cuts of a list are: mostly any, now and then short.
 fn longest_cut(random: &mut Random) -> usize {
     match random.below(1_000) {
@@ -221,7 +335,8 @@ fn any_position(random: &mut Random) -> u16 {
     }
 }
 
-/// A state that no start gives; its tags fit its registers, mostly, where that can be, and some are marked as not to be checked.
+/// A state that no start gives; its tags fit its registers, mostly, where that can be, and some are marked as not to be checked. Now and then a byte
+/// waits where none can.
 fn any_state(random: &mut Random) -> Scan {
     let array = cases::any_array(random);
     let stripe = cases::any_stripe(&array, random);
@@ -229,19 +344,25 @@ fn any_state(random: &mut Random) -> Scan {
         members: array.members,
         stripes: array.stripes,
         volume: array.volume,
+        method: array.method,
         stripe,
         ..Scan::ZEROS
     };
     random.fill(&mut state.tag);
+    random.fill(&mut state.waiting);
     let whole = random.one_in(2);
     let wrong = random.pick(&[2, 20, 1_000]);
     let marked = random.pick(&[2, 20, 1_000]);
+    let astray = random.pick(&[20, 1_000, 1_000]);
     for member in 0..16 {
         state.at[member] = if whole {
             BLOCK as u16
         } else {
             any_position(random)
         };
+        if member < array.members && !waits(&state, member) && !random.one_in(astray) {
+            state.waiting[member] = 0;
+        }
         state.register[member] = random.next() as u16;
         if array.place_fits(stripe, member).is_ok() && !random.one_in(wrong) {
             let mut tag = stripe::due(&array, stripe, member, state.register[member]);
@@ -256,7 +377,25 @@ fn any_state(random: &mut Random) -> Scan {
             state.tag[8 * member + 2..][..2].copy_from_slice(&UNCHECKED);
         }
     }
+    if array.method == 2 && array.stripe_fits(stripe).is_ok() && random.one_in(2) {
+        combine_guards(&array, &mut state);
+    }
     state
+}
+
+/// By method 2 a byte waits after an odd number of data bytes.
+fn waits(state: &Scan, member: usize) -> bool {
+    let at = usize::from(state.at[member]);
+    state.method == 2 && at < DATA && at % 2 == 1
+}
+
+/// The parity's guard made what the others combine to.
+fn combine_guards(array: &Array, state: &mut Scan) {
+    let parity = 8 * array.parity_member(state.stripe);
+    for place in 0..2 {
+        let others = (0..8 * array.members).step_by(8).filter(|at| *at != parity);
+        state.tag[parity + place] = others.fold(0, |sum, at| sum ^ state.tag[at + place]);
+    }
 }
 
 /// A work buffer with anything in it, now and then of a wrong length.
@@ -298,20 +437,25 @@ fn states(random: &mut Random, tally: &mut Tally) -> Outcome<()> {
 fn calls(tally: &Tally, start: &str, piece: &str, finish: &str) -> Outcome<String> {
     Ok(format!(
         "{}, {}, {}",
-        tally.of("start", start)?,
-        tally.of("piece", piece)?,
-        tally.of("finish", finish)?
+        tally.of_each("start", start)?,
+        tally.of_each("piece", piece)?,
+        tally.of_each("finish", finish)?
     ))
 }
 
 pub fn compare(random: &mut Random) -> Outcome<String> {
     let (mut listed, mut single) = (Tally::default(), Tally::default());
+    let [cuts, odd, waiting] = named(random, &mut Tally::default())?;
     for number in 0..LISTS {
         list(random, &mut listed).map_err(|difference| format!("list {number}: {difference}"))?;
     }
     for _ in 0..STATES {
         states(random, &mut single)?;
     }
+    for tally in [&listed, &single] {
+        tally.of("finish", "512")?;
+    }
+    single.of("start", "12")?;
     let listed = calls(&listed, "done", "done 5 7", &format!("{VERDICTS} 8"))?;
     let single = calls(
         &single,
@@ -320,6 +464,6 @@ pub fn compare(random: &mut Random) -> Outcome<String> {
         &format!("{VERDICTS} 4 6 8"),
     )?;
     Ok(format!(
-        "calls alike in {LISTS} lists: {listed}; from any state: {single}"
+        "calls alike by both methods in {LISTS} lists: {listed}; from any state: {single}; in {cuts} stripes cut at each place, {odd} in odd pieces, and {waiting} states in which a byte waits or none"
     ))
 }

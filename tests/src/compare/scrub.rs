@@ -6,7 +6,7 @@ use crate::lent::Lent;
 use crate::library;
 use crate::random::Random;
 use model::layout::Array;
-use model::stripe::{self, Verdict};
+use model::stripe::{self, DATA, Verdict};
 
 pub fn scrub(array: &Array, stripe: u64, bytes: &[u8], tally: &mut Tally) -> Outcome<()> {
     let answer = stripe::scrub(array, stripe, bytes);
@@ -17,7 +17,7 @@ pub fn scrub(array: &Array, stripe: u64, bytes: &[u8], tally: &mut Tally) -> Out
     )
     .and_then(|()| lent.kept("stripe"))
     .map_err(|difference| format!("scrub of stripe {stripe} in {array:?}: {difference}"))?;
-    tally.add("scrub", verdict_name(&answer));
+    tally.add_by(array.method, "scrub", verdict_name(&answer));
     Ok(())
 }
 
@@ -53,21 +53,27 @@ fn within_sixteen(bytes: &[u8]) -> bool {
     }
 }
 
-/// Where every member is good, the quick scrub fits on a clean stripe, and never where the difference is within sixteen bits.
+/// Where every member is good, the quick scrub fits on a clean stripe, and never where the difference is within sixteen bits of method 1; by method 2
+/// never where the guards alone do not combine.
 fn quick_by_verdict(case: &Case, tally: &mut Tally) -> Outcome<()> {
     let guards = stripe::stored_guards(&case.bytes);
     quick_scrub(&guards, tally)?;
     let sum = stripe::combine(case.bytes.chunks(stripe::BLOCK));
+    let method = case.array.method;
     let (stripes, due) = match stripe::scrub(&case.array, case.stripe, &case.bytes) {
         Ok(Verdict::Clean) => ("clean", Some(0)),
-        Ok(Verdict::Torn { .. }) if within_sixteen(&sum) => ("torn within sixteen bits", Some(1)),
+        Ok(Verdict::Torn { place: DATA }) => ("torn by guards alone", Some(1)),
+        Ok(Verdict::Torn { .. }) if method == 1 && within_sixteen(&sum) => {
+            ("torn within sixteen bits", Some(1))
+        }
         Ok(Verdict::Torn { .. }) => ("torn", None),
         _ => return Ok(()),
     };
     let differs = library::quick_scrub(&Lent::new(&guards)).differs;
     same(due.unwrap_or(differs), differs)
         .map_err(|difference| format!("quick scrub of a {stripes} stripe: {difference}"))?;
-    tally.add(stripes, if differs == 0 { "fits" } else { "differs" });
+    let name = if differs == 0 { "fits" } else { "differs" };
+    tally.add_by(method, stripes, name);
     Ok(())
 }
 
@@ -95,14 +101,16 @@ pub fn compare(random: &mut Random) -> Outcome<String> {
         refusals(random, &mut tally)?;
     }
     let calls = [
-        tally.of("scrub", &format!("{VERDICTS} 1 2 3 6"))?,
+        tally.of_each("scrub", &format!("{VERDICTS} 1 2 3 6"))?,
         tally.of("quick scrub", "fits differs 1")?,
-        tally.of("clean", "fits")?,
+        tally.of_each("clean", "fits")?,
         tally.of("torn within sixteen bits", "differs")?,
-        tally.of("torn", "fits differs")?,
+        tally.of("torn by guards alone", "differs")?,
+        tally.of_each("torn", "fits differs")?,
     ];
+    tally.of("scrub", "12 512")?;
     Ok(format!(
-        "calls alike on {stripes} stripes and at refusals: {}",
+        "calls alike by both methods on {stripes} stripes and at refusals: {}",
         calls.join(", ")
     ))
 }

@@ -9,11 +9,12 @@ use model::Answer;
 use model::layout::{Array, Owner};
 use model::stripe::{
     self, APPLICATION, BLOCK, Checked, DATA, Fits, Read, Source, UNCHECKED, Verdict,
+    combine_guards, guard_of, is_combined,
 };
 
 /// Up to so many members are tried in every way in which they can stand, more of them in some ways.
 const EVERY: usize = 6;
-const SOME: usize = 300;
+const SOME: usize = 400;
 /// How often the sentences of the rule are tried for each number of members.
 const SENTENCES: usize = 20;
 
@@ -41,7 +42,7 @@ pub fn standings(members: usize, way: usize) -> Vec<Standing> {
 /// Members that are mostly good.
 fn mostly_good(members: usize, random: &mut Random) -> Vec<Standing> {
     let mut standings = vec![Good; members];
-    for _ in 0..random.below(4) {
+    for _ in 0..random.pick(&[0, 0, 1, 1, 2, 3]) {
         standings[random.below(members)] = random.pick(&[Bad, Unchecked]);
     }
     standings
@@ -57,11 +58,17 @@ fn that_stand(kind: Standing, standings: &[Standing]) -> Vec<usize> {
 /// not show beside a bad or an unchecked one.
 pub fn stand(case: &mut Case, standings: &[Standing], tear: bool, random: &mut Random) -> Verdict {
     let [good, bad, unchecked] = [Good, Bad, Unchecked].map(|kind| that_stand(kind, standings));
+    let parity = case.array.parity_member(case.stripe);
     let mut verdict = Verdict::Clean;
-    if tear && !good.is_empty() {
+    if tear && case.array.method == 2 && good.contains(&parity) && random.one_in(2) {
+        verdict = case.tear_guards(random);
+    } else if tear && !good.is_empty() {
         verdict = case.tear(random.pick(&good), random.below(DATA), random);
     }
-    let wrong: Vec<Fits> = bad.iter().map(|_| cases::any_wrong(random)).collect();
+    let wrong: Vec<Fits> = bad
+        .iter()
+        .map(|member| case.any_wrong(*member, random))
+        .collect();
     for (member, fits) in bad.iter().zip(&wrong) {
         case.spoil_fields(*member, *fits, random);
     }
@@ -83,17 +90,22 @@ pub fn stand(case: &mut Case, standings: &[Standing], tear: bool, random: &mut R
 }
 
 /// A whole stripe that a job leaves.
-type Whole = Answer<Vec<u8>>;
+pub type Whole = Answer<Vec<u8>>;
 
 // What the model answers, and the library too.
 
-fn read(case: &Case, block: u64, random: &mut Random, tally: &mut Tally) -> Outcome<Answer<Read>> {
+pub fn read(
+    case: &Case,
+    block: u64,
+    random: &mut Random,
+    tally: &mut Tally,
+) -> Outcome<Answer<Read>> {
     let out = random.bytes(DATA);
     jobs::read(&case.array, block, &case.bytes, &out, tally)?;
     Ok(stripe::read(&case.array, block, &case.bytes, &out))
 }
 
-fn rebuild(case: &Case, member: usize, tally: &mut Tally) -> Outcome<Whole> {
+pub fn rebuild(case: &Case, member: usize, tally: &mut Tally) -> Outcome<Whole> {
     let Case { array, bytes, .. } = case;
     jobs::rebuild(array, case.stripe, member, bytes, tally)?;
     Ok(stripe::rebuild(array, case.stripe, member, bytes))
@@ -126,10 +138,11 @@ fn done_if<T>(may: bool, answer: &Answer<T>) -> Outcome<()> {
     known(due, answer.as_ref().map(|_| ()).map_err(|number| *number))
 }
 
-/// A stripe, how its members were made to stand, and the verdict on it.
+/// A stripe, how its members were made to stand, whether it was torn, and the verdict on it.
 struct Made {
     case: Case,
     standings: Vec<Standing>,
+    torn: bool,
     verdict: Verdict,
 }
 
@@ -139,6 +152,7 @@ impl Made {
         Made {
             case,
             standings,
+            torn: tear,
             verdict,
         }
     }
@@ -160,6 +174,20 @@ impl Made {
         stripe::combine(self.others(member).map(|other| self.block(other)))
     }
 
+    /// What the others' guards combine to is the guard of what their data combine to. So it is in every stripe that is not torn.
+    fn guards_fit(&self, member: usize) -> bool {
+        let stored = stripe::stored_guards(&self.case.bytes);
+        let combined = combine_guards(self.others(member).map(|other| stored[other]));
+        combined == guard_of(&self.case.array, &self.from_others(member))
+    }
+
+    /// A member is made if all others are good; by method 2 a data member only if their guards fit too.
+    fn can_be_made(&self, member: usize) -> bool {
+        let Case { array, stripe, .. } = self.case;
+        let by_guards = array.method == 2 && !is_combined(&array, stripe, member) && self.torn;
+        self.others_good(member) && (!by_guards || self.guards_fit(member))
+    }
+
     fn check(&self, member: usize) -> Outcome<()> {
         let Case { array, stripe, .. } = self.case;
         let said = tag::checked(&array, stripe, member, self.block(member))?;
@@ -177,24 +205,26 @@ impl Made {
         let (source, data) = match self.standings[member] {
             Good => (Source::Stored, own),
             Unchecked => (Source::Unchecked, own),
-            Bad if self.others_good(member) => (Source::Rebuilt, self.from_others(member)),
+            Bad if self.can_be_made(member) => (Source::Rebuilt, self.from_others(member)),
             Bad => return Err(9),
         };
         Ok(Read { source, data })
     }
 
-    /// A rebuild is done where all others are good, however the member itself stands. It leaves these, and makes a good block of their data.
+    /// A rebuild is done where all others are good, and by method 2 fit, however the member itself stands. It leaves these, makes a good block of their
+    /// data, and all guards combine to zero.
     fn rebuild(&self, member: usize, tally: &mut Tally) -> Outcome<()> {
         let rebuilt = rebuild(&self.case, member, tally)?;
-        done_if(self.others_good(member), &rebuilt)?;
+        done_if(self.can_be_made(member), &rebuilt)?;
         let Ok(whole) = rebuilt else { return Ok(()) };
         let block = &whole[stripe::span(member)];
         known(&self.from_others(member)[..], &block[..DATA])?;
         good(&self.case, member, block)?;
+        known(0, combine_guards(stripe::stored_guards(&whole)))?;
         self.left(&whole, &[member])
     }
 
-    /// An update is done where the block and the parity are good, however the others stand, and leaves these.
+    /// An update is done where the block and the parity are good, however the others stand. It leaves these, and what all guards combine to.
     fn update(
         &self,
         member: usize,
@@ -212,6 +242,8 @@ impl Made {
         for member in both {
             good(&self.case, member, &whole[stripe::span(member)])?;
         }
+        let [before, after] = [&self.case.bytes, &whole].map(|bytes| stripe::stored_guards(bytes));
+        known(combine_guards(before), combine_guards(after))?;
         self.left(&whole, &both)
     }
 
@@ -373,7 +405,7 @@ impl Sentences {
 
     /// Bad goes before unchecked, and is counted alone.
     fn bad_beside(&self, random: &mut Random, tally: &mut Tally) -> Outcome<()> {
-        let fits = cases::any_wrong(random);
+        let fits = self.sealed.any_wrong(self.one, random);
         let mut case = self.with(&[(self.one, Good)], Unchecked, random);
         case.spoil_fields(self.one, fits, random);
         let due = Verdict::Bad {
@@ -443,14 +475,17 @@ pub fn compare(random: &mut Random) -> Outcome<String> {
         }
     }
     let calls = [
-        tally.of("scrub", VERDICTS)?,
-        tally.of("finish", VERDICTS)?,
-        tally.of("read", "stored rebuilt unchecked 9")?,
-        tally.of("rebuild", "done 9")?,
-        tally.of("update", "done 9")?,
+        tally.of_each("scrub", VERDICTS)?,
+        tally.of_each("finish", VERDICTS)?,
+        tally.of_each("read", "stored rebuilt unchecked 9")?,
+        tally.of_each("rebuild", "done 9")?,
+        tally.of_each("update", "done 9")?,
     ];
+    for call in ["scrub", "finish"] {
+        tally.of(call, "512")?;
+    }
     Ok(format!(
-        "answers known beforehand on {stripes} stripes, up to {EVERY} members in every way to stand, and in {tried} named cases: {}",
+        "answers known beforehand by both methods on {stripes} stripes, up to {EVERY} members in every way to stand, and in {tried} named cases: {}",
         calls.join(", ")
     ))
 }

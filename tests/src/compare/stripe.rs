@@ -18,7 +18,7 @@ fn seal(array: &Array, stripe: u64, data: &[u8], before: &[u8], tally: &mut Tall
     .and_then(|()| lent.kept("data"))
     .and_then(|()| bytes.holds("stripe", answer.as_deref().unwrap_or(before)))
     .map_err(|difference| format!("seal of stripe {stripe} in {array:?}: {difference}"))?;
-    tally.add("seal", done_name(&answer));
+    tally.add_by(array.method, "seal", done_name(&answer));
     Ok(())
 }
 
@@ -51,7 +51,7 @@ pub fn read(
         },
         Err(number) => tally::refused(*number),
     };
-    tally.add("read", name);
+    tally.add_by(array.method, "read", name);
     Ok(())
 }
 
@@ -72,7 +72,7 @@ pub fn rebuild(
     .map_err(|difference| {
         format!("rebuild of stripe {stripe}, member {member} in {array:?}: {difference}")
     })?;
-    tally.add("rebuild", done_name(&answer));
+    tally.add_by(array.method, "rebuild", done_name(&answer));
     Ok(())
 }
 
@@ -92,7 +92,7 @@ pub fn update(
     .and_then(|()| lent.kept("data"))
     .and_then(|()| bytes.holds("stripe", answer.as_deref().unwrap_or(before)))
     .map_err(|difference| format!("update of block {block} in {array:?}: {difference}"))?;
-    tally.add("update", done_name(&answer));
+    tally.add_by(array.method, "update", done_name(&answer));
     Ok(())
 }
 
@@ -145,13 +145,16 @@ pub fn compare(random: &mut Random) -> Outcome<String> {
         refusals(random, &mut tally)?;
     }
     let calls = [
-        tally.of("seal", "done 1 2 3 6")?,
-        tally.of("read", "stored rebuilt unchecked 1 2 3 6 9")?,
-        tally.of("rebuild", "done 1 2 3 5 6 9")?,
-        tally.of("update", "done 1 2 3 6 9")?,
+        tally.of_each("seal", "done 1 2 3 6")?,
+        tally.of_each("read", "stored rebuilt unchecked 1 2 3 6 9")?,
+        tally.of_each("rebuild", "done 1 2 3 5 6 9")?,
+        tally.of_each("update", "done 1 2 3 6 9")?,
     ];
+    for call in ["seal", "read", "rebuild", "update"] {
+        tally.of(call, "12")?;
+    }
     Ok(format!(
-        "calls alike on {stripes} stripes and at refusals: {}",
+        "calls alike by both methods on {stripes} stripes and at refusals: {}",
         calls.join(", ")
     ))
 }

@@ -73,7 +73,7 @@ fn check(
     tally: &mut Tally,
 ) -> Outcome<()> {
     let answer = checked(array, stripe, member, block)?;
-    tally.add("check", check_name(&answer));
+    tally.add_by(array.method, "check", check_name(&answer));
     Ok(())
 }
 
@@ -96,11 +96,12 @@ pub fn compare(random: &mut Random) -> Outcome<String> {
     for _ in 0..cases::REFUSALS {
         refusals(random, &mut tally)?;
     }
-    let calls = tally.of(
+    tally.of("check", "12")?;
+    let calls = tally.of_each(
         "check",
         "--- G-- -A- --R GA- G-R -AR GAR unchecked 1 2 3 5 6",
     )?;
     Ok(format!(
-        "calls alike on {stripes} stripes and at refusals: {calls}"
+        "calls alike by both methods on {stripes} stripes and at refusals: {calls}"
     ))
 }

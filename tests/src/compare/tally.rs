@@ -1,5 +1,6 @@
 //! How often each call gave each answer, so that a comparison shows that it tried them all.
 
+use super::cases::METHODS;
 use std::collections::BTreeMap;
 
 /// An answer that came up less often was not tried.
@@ -7,34 +8,58 @@ const OFTEN: u64 = 100;
 
 #[derive(Default)]
 pub struct Tally {
-    counts: BTreeMap<(&'static str, &'static str), u64>,
+    counts: BTreeMap<(&'static str, &'static str, u8), u64>,
 }
 
 /// The name of a refusal.
 pub fn refused(number: u32) -> &'static str {
-    const NAMES: [&str; 12] = ["0", "1", "2", "3", "4", "5", "6", "7", "8", "9", "10", "11"];
+    #[rustfmt::skip]
+    const NAMES: [&str; 13] = ["0", "1", "2", "3", "4", "5", "6", "7", "8", "9", "10", "11", "12"];
     NAMES[number as usize]
 }
 
 impl Tally {
+    /// An answer of a call that knows no method.
     pub fn add(&mut self, call: &'static str, answer: &'static str) {
-        *self.counts.entry((call, answer)).or_default() += 1;
+        self.add_by(0, call, answer);
+    }
+
+    /// An answer of a call on an array of this method, which may be none.
+    pub fn add_by(&mut self, method: u8, call: &'static str, answer: &'static str) {
+        *self.counts.entry((call, answer, method)).or_default() += 1;
     }
 
     /// How many calls there were, each of these answers among them often; or the answer that was not.
     pub fn of(&self, call: &str, answers: &str) -> Result<String, String> {
+        self.often(call, answers, |_| true)?;
+        let calls = self.counts.iter().filter(|((name, ..), _)| *name == call);
+        Ok(format!(
+            "{call} {}",
+            calls.map(|(_, count)| count).sum::<u64>()
+        ))
+    }
+
+    /// The same, each answer often by every method.
+    pub fn of_each(&self, call: &str, answers: &str) -> Result<String, String> {
+        for method in METHODS {
+            self.often(call, answers, |by| by == method)
+                .map_err(|difference| format!("by method {method} {difference}"))?;
+        }
+        self.of(call, answers)
+    }
+
+    fn often(&self, call: &str, answers: &str, counts: impl Fn(u8) -> bool) -> Result<(), String> {
         for answer in answers.split(' ') {
-            let count = self.counts.get(&(call, answer)).copied().unwrap_or(0);
+            let found = self.counts.iter().filter(|((name, found, method), _)| {
+                *name == call && *found == answer && counts(*method)
+            });
+            let count: u64 = found.map(|(_, count)| count).sum();
             if count < OFTEN {
                 return Err(format!(
                     "{call} gave the answer {answer} only {count} times"
                 ));
             }
         }
-        let calls = self.counts.iter().filter(|((name, _), _)| *name == call);
-        Ok(format!(
-            "{call} {}",
-            calls.map(|(_, count)| count).sum::<u64>()
-        ))
+        Ok(())
     }
 }

@@ -7,6 +7,7 @@ pub struct Array {
     pub members: usize,
     pub stripes: u64,
     pub volume: u8,
+    pub method: u8,
 }
 
 #[derive(Clone, Copy, Debug, PartialEq)]
@@ -23,13 +24,16 @@ pub enum Owner {
 }
 
 impl Array {
-    /// Rows 1 and 2 of the refusals.
+    /// Rows 1, 2 and 12 of the refusals, in this order.
     pub fn fits(&self) -> Answer<()> {
         if !(3..=16).contains(&self.members) {
             return Err(1);
         }
         if !(1..=268_435_456).contains(&self.stripes) {
             return Err(2);
+        }
+        if ![1, 2].contains(&self.method) {
+            return Err(12);
         }
         Ok(())
     }

@@ -1,5 +1,6 @@
 //! The rules, written down a second time: a library of its own, so that programs can use it without the proved one.
 
+pub mod checksum;
 pub mod guard;
 pub mod join;
 pub mod layout;

@@ -4,27 +4,42 @@ use super::Answer;
 use super::layout::Array;
 use super::stripe::{self, BLOCK, Fits, Verdict};
 
-pub const HEADER: usize = 9;
-
-/// The header of an image: how many bytes follow in it, the version, and the array's numbers.
-pub fn header(array: &Array) -> [u8; HEADER] {
-    let members = u8::try_from(array.members).expect("a header has one byte for the members");
-    let stripes = u32::try_from(array.stripes).expect("a header has four bytes for the stripes");
-    let [s0, s1, s2, s3] = stripes.to_be_bytes();
-    [0, 7, 1, members, array.volume, s0, s1, s2, s3]
+/// The header of an image, of the first version where that says enough.
+pub fn header(array: &Array) -> Vec<u8> {
+    header_of(if array.method == 1 { 1 } else { 2 }, array)
 }
 
-/// The array that a header speaks of.
-fn array_in(header: &[u8]) -> Answer<Array> {
-    let [0, 7, 1, members, volume, s0, s1, s2, s3] = *header else {
-        return Err(10);
+/// The header of an image: how many bytes follow in it, the version, and the array's numbers, of which the first version leaves out the method.
+pub fn header_of(version: u8, array: &Array) -> Vec<u8> {
+    let members = u8::try_from(array.members).expect("a header has one byte for the members");
+    let stripes = u32::try_from(array.stripes).expect("a header has four bytes for the stripes");
+    let mut rest = vec![version, members, array.volume];
+    rest.extend(stripes.to_be_bytes());
+    if version == 2 {
+        rest.push(array.method);
+    }
+    let length = rest.len() as u16;
+    [&length.to_be_bytes()[..], &rest].concat()
+}
+
+/// The array that the header of an image speaks of, and what follows the header.
+fn opened(image: &[u8]) -> Answer<(Array, &[u8])> {
+    let (members, volume, stripes, method, body) = match *image {
+        [0, 7, 1, n, volume, s0, s1, s2, s3, ref body @ ..] => {
+            (n, volume, [s0, s1, s2, s3], 1, body)
+        }
+        [0, 8, 2, n, volume, s0, s1, s2, s3, method, ref body @ ..] => {
+            (n, volume, [s0, s1, s2, s3], method, body)
+        }
+        _ => return Err(10),
     };
     let array = Array {
         members: usize::from(members),
-        stripes: u64::from(u32::from_be_bytes([s0, s1, s2, s3])),
+        stripes: u64::from(u32::from_be_bytes(stripes)),
         volume,
+        method,
     };
-    array.fits().map(|()| array)
+    array.fits().map(|()| (array, body))
 }
 
 /// The lines of a report, in the order in which the stripes come.
@@ -114,9 +129,8 @@ fn refused_line(number: u32) -> String {
 
 /// The whole report on an image.
 pub fn report(image: &[u8]) -> String {
-    let (header, body) = image.split_at(image.len().min(HEADER));
-    let array = match array_in(header) {
-        Ok(array) => array,
+    let (array, body) = match opened(image) {
+        Ok(opened) => opened,
         Err(number) => return refused_line(number),
     };
     let length = array.members * BLOCK;

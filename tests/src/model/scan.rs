@@ -2,7 +2,7 @@
 
 use super::layout::Array;
 use super::stripe::{self, BLOCK, Checked, DATA, Verdict};
-use super::{Answer, guard};
+use super::{Answer, checksum, guard};
 
 /// The state of a scan, laid out as the C header has it.
 #[repr(C)]
@@ -11,9 +11,11 @@ pub struct Scan {
     pub members: usize,
     pub stripes: u64,
     pub volume: u8,
+    pub method: u8,
     pub stripe: u64,
     pub at: [u16; 16],
     pub register: [u16; 16],
+    pub waiting: [u8; 16],
     pub tag: [u8; 128],
 }
 
@@ -22,11 +24,20 @@ impl Scan {
         members: 0,
         stripes: 0,
         volume: 0,
+        method: 0,
         stripe: 0,
         at: [0; 16],
         register: [0; 16],
+        waiting: [0; 16],
         tag: [0; 128],
     };
+
+    /// The guards that stand in the tag bytes of the first members.
+    fn stored_guards(&self, members: usize) -> Vec<u16> {
+        let tags = self.tag.chunks(8).take(members);
+        tags.map(|tag| u16::from_be_bytes([tag[0], tag[1]]))
+            .collect()
+    }
 }
 
 /// A work buffer.
@@ -76,7 +87,10 @@ impl History {
         for (member, taken) in self.taken.iter().enumerate() {
             let (data, tag) = taken.split_at(taken.len().min(DATA));
             state.at[member] = taken.len() as u16;
-            state.register[member] = guard::go_on(0, data);
+            (state.register[member], state.waiting[member]) = match self.array.method {
+                1 => (guard::go_on(0, data), 0),
+                _ => of_words(data),
+            };
             state.tag[8 * member..][..tag.len()].copy_from_slice(tag);
         }
         state
@@ -94,12 +108,25 @@ impl History {
     }
 }
 
+/// The checksum of the whole words of a run, and the byte that is left, or 0.
+fn of_words(data: &[u8]) -> (u16, u8) {
+    let (words, left) = data.split_at(data.len() / 2 * 2);
+    let sum = checksum::checksum(words).expect("whole words");
+    (sum, left.first().copied().unwrap_or(0))
+}
+
 fn opened(array: &Array, stripe: u64) -> Scan {
+    let start = match array.method {
+        1 => 0,
+        _ => checksum::START,
+    };
     Scan {
         members: array.members,
         stripes: array.stripes,
         volume: array.volume,
+        method: array.method,
         stripe,
+        register: [start; 16],
         ..Scan::ZEROS
     }
 }
@@ -114,15 +141,21 @@ fn fit(state: &Scan) -> Answer<Array> {
         members: state.members,
         stripes: state.stripes,
         volume: state.volume,
+        method: state.method,
     };
     array.stripe_fits(state.stripe).map_err(|_| 4u32)?;
-    if state.at[..array.members]
-        .iter()
-        .any(|at| *at > BLOCK as u16)
-    {
-        return Err(4);
+    for member in 0..array.members {
+        let at = usize::from(state.at[member]);
+        if at > BLOCK || (state.waiting[member] != 0 && !waits(&array, at)) {
+            return Err(4);
+        }
     }
     Ok(array)
+}
+
+/// Whether a byte waits for its pair once so many of a block are taken.
+fn waits(array: &Array, at: usize) -> bool {
+    array.method == 2 && at < DATA && at % 2 == 1
 }
 
 /// The first state, and the work buffer cleared.
@@ -146,7 +179,18 @@ pub fn piece(state: &Scan, member: usize, bytes: &[u8], work: &[u8]) -> Answer<(
     for byte in bytes {
         let at = usize::from(next.at[member]);
         if at < DATA {
-            next.register[member] = guard::go_on(next.register[member], &[*byte]);
+            let register = next.register[member];
+            if array.method == 1 {
+                next.register[member] = guard::go_on(register, &[*byte]);
+            } else {
+                let sum = checksum::Sum {
+                    value: register,
+                    waiting: waits(&array, at).then_some(next.waiting[member]),
+                };
+                let sum = sum.go_on(*byte);
+                next.register[member] = sum.value;
+                next.waiting[member] = sum.waiting.unwrap_or(0);
+            }
             work[at] ^= byte;
         } else {
             next.tag[8 * member + at - DATA] = *byte;
@@ -168,9 +212,10 @@ pub fn finish(state: &Scan, work: &[u8]) -> Answer<Verdict> {
     }
     let members: Vec<Checked> = (0..array.members)
         .map(|member| {
-            let due = stripe::due(&array, state.stripe, member, state.register[member]);
-            stripe::told(&state.tag[8 * member..][..8], &due)
+            let tag = &state.tag[8 * member..][..8];
+            stripe::told(&array, state.stripe, member, state.register[member], tag)
         })
         .collect();
-    Ok(stripe::verdict(&members, &work))
+    let guards = state.stored_guards(array.members);
+    Ok(stripe::verdict(array.method, &members, &work, &guards))
 }

@@ -1,8 +1,7 @@
 //! A stripe in memory: the tags due on its blocks, and the jobs on it. A job gives what it makes; a refused one makes nothing.
 
-use super::Answer;
-use super::guard;
 use super::layout::{Array, Owner};
+use super::{Answer, checksum, guard};
 use std::ops::Range;
 
 pub const DATA: usize = 512;
@@ -93,6 +92,7 @@ pub enum Verdict {
         member: usize,
         count: usize,
     },
+    /// The first byte at which the data do not combine to zero; 512 where only the guards of method 2 do not.
     Torn {
         place: usize,
     },
@@ -134,21 +134,44 @@ pub fn due(array: &Array, stripe: u64, member: usize, guard: u16) -> [u8; 8] {
     [g0, g1, kind, array.volume, r0, r1, r2, r3]
 }
 
-/// Data with the tag that is due.
-pub fn tagged(array: &Array, stripe: u64, member: usize, data: &[u8]) -> Vec<u8> {
-    let tag = due(array, stripe, member, guard::go_on(0, data));
-    [data, &tag[..]].concat()
+/// Data with the tag due at a place, where this guard is.
+pub fn tagged(array: &Array, stripe: u64, member: usize, data: &[u8], guard: u16) -> Vec<u8> {
+    [data, &due(array, stripe, member, guard)].concat()
+}
+
+/// The guard of a block's data by the array's method.
+pub fn guard_of(array: &Array, data: &[u8]) -> u16 {
+    match array.method {
+        1 => guard::go_on(0, data),
+        _ => checksum::checksum(data).expect("a block has whole words"),
+    }
+}
+
+/// Whether a guard at a place is what those of the data combine to, so that the block itself does not tell it: so has the parity of method 2.
+pub fn is_combined(array: &Array, stripe: u64, member: usize) -> bool {
+    array.method == 2 && member == array.parity_member(stripe)
+}
+
+/// What guards combine to.
+pub fn combine_guards(guards: impl IntoIterator<Item = u16>) -> u16 {
+    guards.into_iter().fold(0, |sum, guard| sum ^ guard)
 }
 
 fn number(bytes: &[u8]) -> u64 {
     bytes.iter().fold(0, |n, byte| n << 8 | u64::from(*byte))
 }
 
-/// What is said of a block with the tag `tag`, where `due` is due. The mark in the application tag goes first, whatever the rest is.
-pub fn told(tag: &[u8], due: &[u8]) -> Checked {
+/// What is said of a block at a place, whose data have the guard `own`. The mark in the application tag goes first, whatever the rest is.
+pub fn told(array: &Array, stripe: u64, member: usize, own: u16, tag: &[u8]) -> Checked {
     if tag[2..4] == UNCHECKED {
         return Checked::Unchecked;
     }
+    let guard = if is_combined(array, stripe, member) {
+        u16::from_be_bytes([tag[0], tag[1]])
+    } else {
+        own
+    };
+    let due = due(array, stripe, member, guard);
     let field = |bytes: Range<usize>| Field {
         found: number(&tag[bytes.clone()]),
         expected: number(&due[bytes]),
@@ -168,7 +191,7 @@ pub fn told(tag: &[u8], due: &[u8]) -> Checked {
 /// What is said of a block at a place.
 fn told_of(array: &Array, stripe: u64, member: usize, block: &[u8]) -> Checked {
     let (data, tag) = block.split_at(DATA);
-    told(tag, &due(array, stripe, member, guard::go_on(0, data)))
+    told(array, stripe, member, guard_of(array, data), tag)
 }
 
 fn is_good(array: &Array, stripe: u64, bytes: &[u8], member: usize) -> bool {
@@ -180,14 +203,22 @@ fn others(array: &Array, member: usize) -> impl Iterator<Item = usize> + use<> {
     (0..array.members).filter(move |other| *other != member)
 }
 
-/// The exclusive-or of all members but one, if they are good.
+/// The block of a member, made from all others, if they are good. By method 2 their guards combine to its own; a member with data is made only if
+/// that is the guard of what their data combine to.
 fn from_others(array: &Array, stripe: u64, bytes: &[u8], member: usize) -> Answer<Vec<u8>> {
     if !others(array, member).all(|other| is_good(array, stripe, bytes, other)) {
         return Err(9);
     }
-    Ok(combine(
-        others(array, member).map(|other| &bytes[span(other)]),
-    ))
+    let data = combine(others(array, member).map(|other| &bytes[span(other)]));
+    let own = guard_of(array, &data);
+    let stored = stored_guards(bytes);
+    let combined = combine_guards(others(array, member).map(|other| stored[other]));
+    let guard = match array.method {
+        1 => own,
+        _ if is_combined(array, stripe, member) || combined == own => combined,
+        _ => return Err(9),
+    };
+    Ok(tagged(array, stripe, member, &data, guard))
 }
 
 pub fn check(array: &Array, stripe: u64, member: usize, block: &[u8]) -> Answer<Checked> {
@@ -205,11 +236,16 @@ pub fn seal(array: &Array, stripe: u64, data: &[u8], bytes: &[u8]) -> Answer<Vec
     let mut blocks = data.chunks(DATA);
     let mut whole = Vec::new();
     for (member, owner) in array.row(stripe).iter().enumerate() {
-        let data = match owner {
+        let block = match owner {
             Owner::Parity { .. } => &parity,
             Owner::Data { .. } => blocks.next().expect("a block for each data member"),
         };
-        whole.extend(tagged(array, stripe, member, data));
+        let guard = if is_combined(array, stripe, member) {
+            combine_guards(data.chunks(DATA).map(|data| guard_of(array, data)))
+        } else {
+            guard_of(array, block)
+        };
+        whole.extend(tagged(array, stripe, member, block, guard));
     }
     Ok(whole)
 }
@@ -224,8 +260,8 @@ pub fn read(array: &Array, block: u64, bytes: &[u8], out: &[u8]) -> Answer<Read>
         Checked::Good(_) => (Source::Stored, own[..DATA].to_vec()),
         Checked::Unchecked => (Source::Unchecked, own[..DATA].to_vec()),
         Checked::Bad(_) => {
-            let data = from_others(array, place.stripe, bytes, place.member)?;
-            (Source::Rebuilt, data)
+            let block = from_others(array, place.stripe, bytes, place.member)?;
+            (Source::Rebuilt, block[..DATA].to_vec())
         }
     };
     Ok(Read { source, data })
@@ -235,9 +271,9 @@ pub fn read(array: &Array, block: u64, bytes: &[u8], out: &[u8]) -> Answer<Read>
 pub fn rebuild(array: &Array, stripe: u64, member: usize, bytes: &[u8]) -> Answer<Vec<u8>> {
     array.place_fits(stripe, member)?;
     sized(bytes, array.members * BLOCK)?;
-    let data = from_others(array, stripe, bytes, member)?;
+    let block = from_others(array, stripe, bytes, member)?;
     let mut whole = bytes.to_vec();
-    whole[span(member)].copy_from_slice(&tagged(array, stripe, member, &data));
+    whole[span(member)].copy_from_slice(&block);
     Ok(whole)
 }
 
@@ -255,15 +291,23 @@ pub fn update(array: &Array, block: u64, data: &[u8], bytes: &[u8]) -> Answer<Ve
     }
     let old = [&bytes[span(parity)], &bytes[span(place.member)], data];
     let sum = combine(old.into_iter());
+    let new = guard_of(array, data);
+    let stored = stored_guards(bytes);
+    let sum_guard = match array.method {
+        1 => guard_of(array, &sum),
+        _ => combine_guards([stored[parity], stored[place.member], new]),
+    };
     let mut whole = bytes.to_vec();
-    for (member, data) in [(place.member, data), (parity, &sum)] {
-        whole[span(member)].copy_from_slice(&tagged(array, place.stripe, member, data));
+    for (member, data, guard) in [(place.member, data, new), (parity, &sum, sum_guard)] {
+        let block = tagged(array, place.stripe, member, data, guard);
+        whole[span(member)].copy_from_slice(&block);
     }
     Ok(whole)
 }
 
-/// The verdict on members of which this is said, and on what their data combine to: bad ones go first, then unchecked ones.
-pub fn verdict(members: &[Checked], sum: &[u8]) -> Verdict {
+/// The verdict on members of which this is said, on what their data combine to, and on their stored guards: bad ones go first, then unchecked ones,
+/// then the data, and last, by method 2, the guards.
+pub fn verdict(method: u8, members: &[Checked], sum: &[u8], guards: &[u16]) -> Verdict {
     let (mut bad, mut unchecked) = (Vec::new(), Vec::new());
     for (member, told) in members.iter().enumerate() {
         match told {
@@ -284,10 +328,13 @@ pub fn verdict(members: &[Checked], sum: &[u8]) -> Verdict {
         let count = unchecked.len();
         return Verdict::Unchecked { member, count };
     }
-    match sum.iter().position(|byte| *byte != 0) {
-        Some(place) => Verdict::Torn { place },
-        None => Verdict::Clean,
+    if let Some(place) = sum.iter().position(|byte| *byte != 0) {
+        return Verdict::Torn { place };
     }
+    if method == 2 && combine_guards(guards.iter().copied()) != 0 {
+        return Verdict::Torn { place: DATA };
+    }
+    Verdict::Clean
 }
 
 pub fn scrub(array: &Array, stripe: u64, bytes: &[u8]) -> Answer<Verdict> {
@@ -296,7 +343,8 @@ pub fn scrub(array: &Array, stripe: u64, bytes: &[u8]) -> Answer<Verdict> {
     let members: Vec<Checked> = (0..array.members)
         .map(|member| told_of(array, stripe, member, &bytes[span(member)]))
         .collect();
-    Ok(verdict(&members, &combine(bytes.chunks(BLOCK))))
+    let sum = combine(bytes.chunks(BLOCK));
+    Ok(verdict(array.method, &members, &sum, &stored_guards(bytes)))
 }
 
 /// What the guards combine to: they fit where that is zero.
@@ -304,7 +352,7 @@ pub fn quick_scrub(guards: &[u16]) -> Answer<u16> {
     if !(3..=16).contains(&guards.len()) {
         return Err(1);
     }
-    Ok(guards.iter().fold(0, |sum, guard| sum ^ guard))
+    Ok(combine_guards(guards.iter().copied()))
 }
 
 /// The guards that stand in the blocks' tags.

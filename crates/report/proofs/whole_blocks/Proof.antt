@@ -3,7 +3,7 @@ use mathlib.Core.Path.{ap}
 use Prim.Native.Nat.{ℕ, _/_}
 use native.Mathlib.Omega.{arith}
 use borrow.Author.Needs.{needs}
-use Rattle.format.specs.Methods.{formatOf}
+use Rattle.tag.specs.Blocks.{formatAt}
 use Rattle.report.proofs.Blocks.{block-some}
 use Rattle.report.proofs.whole_blocks.Statement.{statement}
 use Rattle.report.proofs.whole_blocks.Tie as tie
@@ -12,7 +12,7 @@ block-length-requires : tie.Need-block-length-requires
 block-length-requires c κs = search needs
 
 div-result : tie.Need-div-result
-div-result c = omega (arith, c .block-length .ensures, block-some (formatOf (c .before .args .method)))
+div-result c = let a = c .before .args .array in omega (arith, c .block-length .ensures, block-some (formatAt a))
 
 returns : tie.Need-returns
 returns c = ap (λ (k : ℕ). c .before .args .have / k) (c .block-length .ensures)

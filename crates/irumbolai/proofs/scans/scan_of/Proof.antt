@@ -7,7 +7,7 @@ array-of-requires : tie.Need-array-of-requires
 array-of-requires c κs = search needs
 
 returns : tie.Need-returns
-returns c = rw (c .before .before .before .array-of .ensures)
+returns c = rw (c .before .before .before .before .array-of .ensures)
 
 pub scan-of-spec : {M : Type 1} → statement M
 scan-of-spec = tie.close (tie.spec array-of-requires returns)

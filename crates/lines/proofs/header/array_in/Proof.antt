@@ -1,10 +1,8 @@
 -- `lines::header::array_in` is `arrayIn`. Assumes nothing.
 use mathlib.Core.Path.{_≡_, ap, _∙_}
-use Prim.Native.Nat.{ℕ}
 use native.Mathlib.Omega.{arith}
 use borrow.Author.Needs.{needs}
 use lib.ListN.{getD}
-use Rattle.layout.specs.Arrays.{arrayOf}
 use Rattle.lines.specs.Headers.{formOf, arrayIn}
 use Rattle.lines.specs.declared.header.Form.{Form}
 use Rattle.lines.proofs.Headers.{wide-most}
@@ -23,6 +21,9 @@ number-in-requires c κs =
     let wide : c .form-of .result .wide ≡ formOf version .wide = ap (λ (f : Form). f .wide) (c .form-of .ensures) in
     (omega (arith, wide-most version), omega (arith, wide-most version))
 
+later-requires : tie.Need-later-requires
+later-requires c κs = search needs
+
 array-read-array-of : tie.Need-array-read-array-of
 array-read-array-of c = search needs
 
@@ -38,10 +39,9 @@ array-of-requires c κs = search needs
 returns : tie.Need-returns
 unfolding arrayIn
 returns c =
-    let n = c .before in
-    let header = n .before .before .args .t1 in
-    c .array-of .ensures
-    ∙ ap (λ (stripes : ℕ). arrayOf (getD header 3 0) stripes (getD header 4 0)) (n .number-in .ensures ∙ rw (n .before .form-of .ensures))
+    let l = c .before in
+    let n = l .before in
+    c .array-of .ensures ∙ rw (l .later .ensures, n .number-in .ensures, n .before .form-of .ensures)
 
 pub array-in-spec : {M : Type 1} → statement M
 array-in-spec =
@@ -50,6 +50,7 @@ array-in-spec =
     array-read-form-of
     form-of-requires
     number-in-requires
+    later-requires
     array-read-array-of
     cast-array-of
     array-read-array-of-2

@@ -35,7 +35,7 @@ stripe-took-requires : tie.Need-stripe-took-requires
 stripe-took-requires c κs =
     let l = c .before .before .before in
     let k = l .before in
-    let i = k .before in
+    let i = k .before .before in
     let f = i .before in
     let a = f .before .before .before .before .args in (
       sym (f .stripe-fit .ensures) ∙ not-false _ (i .if1 .left),
@@ -53,7 +53,7 @@ returns-2 c =
     let t = c .before .before .before .before in
     let l = t .before .before .before .before in
     let k = l .before in
-    let i = k .before in
+    let i = k .before .before in
     let f = i .before in
     let a = f .before .before .before .before .args in
     fit-takes (a .report) (a .input .now) (a .work .now) _ (t .stripe-took .result) _ _ _ (sym (f .stripe-fit .ensures) ∙ not-false _ (i .if1 .left))

@@ -3,7 +3,7 @@ use mathlib.Core.Path.{ap}
 use Prim.Native.Nat.{ℕ, _-_, _%_}
 use native.Mathlib.Omega.{arith}
 use borrow.Author.Needs.{needs}
-use Rattle.format.specs.Methods.{formatOf}
+use Rattle.tag.specs.Blocks.{formatAt}
 use Rattle.report.proofs.Blocks.{block-some, rest-short}
 use Rattle.report.proofs.stripes.block_lacks.Statement.{statement}
 use Rattle.report.proofs.stripes.block_lacks.Tie as tie
@@ -12,12 +12,12 @@ block-length-requires : tie.Need-block-length-requires
 block-length-requires c κs = search needs
 
 rem-result : tie.Need-rem-result
-rem-result c = omega (arith, c .block-length .ensures, block-some (formatOf (c .before .args .method)))
+rem-result c = let a = c .before .args .array in omega (arith, c .block-length .ensures, block-some (formatAt a))
 
 sub-result : tie.Need-sub-result
 sub-result c =
     let a = c .before .args in
-    rw (c .block-length .ensures) (omega (arith, rest-short (formatOf (a .method)) (a .have)))
+    rw (c .block-length .ensures) (omega (arith, rest-short (formatAt (a .array)) (a .have)))
 
 returns : tie.Need-returns
 returns c = ap (λ (k : ℕ). k - c .before .args .have % k) (c .block-length .ensures)

@@ -15,13 +15,13 @@ start-requires : tie.Need-start-requires
 start-requires c κs = search needs
 
 cast-first : tie.Need-cast-first
-cast-first c = omega (arith, c .start .ensures, start-narrow)
+cast-first c = omega (arith, c .start .ensures, start-narrow (c .before .args .array .method))
 
 returns : tie.Need-returns
 unfolding emptyScan
 returns c =
     let a = c .before .args in
-    ap (λ (x : ℕ). record { array = a .array; stripe = a .stripe; at = replicate 16 0; register = replicate 16 x; tag = replicate mostTags 0 }) (c .start .ensures)
+    ap (λ (x : ℕ). record { array = a .array; stripe = a .stripe; at = replicate 16 0; register = replicate 16 x; waiting = replicate 16 0; tag = replicate mostTags 0 }) (c .start .ensures)
 
 pub empty-spec : {M : Type 1} → statement M
 empty-spec = tie.close (tie.spec start-requires cast-first returns)

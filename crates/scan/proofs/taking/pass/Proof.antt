@@ -1,8 +1,6 @@
 -- `scan::taking::pass` meets its contract: a whole block has only the position 0. Assumes nothing.
-use mathlib.Core.Path.{_≡_, sym}
-use Prim.Native.Nat.{_-_}
+use mathlib.Core.Path.{_≡_, refl, sym, _∙_}
 use native.Mathlib.Omega.{arith}
-use lib.Seq.{take-all}
 use Rattle.format.specs.Methods.{formatOf}
 use Rattle.scan.proofs.Cuts.{passed-alike}
 use borrow.Author.Needs.{needs}
@@ -15,17 +13,8 @@ block-length-requires c κs = search needs
 start-requires : tie.Need-start-requires
 start-requires c κs = search needs
 
-sub-pass-on : tie.Need-sub-pass-on
-sub-pass-on c = search needs
-
-part-pass-on-start : tie.Need-part-pass-on-start
-part-pass-on-start c = search needs
-
-part-pass-on-end : tie.Need-part-pass-on-end
-part-pass-on-end c = search needs
-
-pass-on-requires : tie.Need-pass-on-requires
-pass-on-requires c κs = search needs
+pass-whole-requires : tie.Need-pass-whole-requires
+pass-whole-requires c κs = search needs
 
 same-length : tie.Need-same-length
 same-length c = search needs
@@ -35,17 +24,17 @@ same-length-2 c = search needs
 
 returns : tie.Need-returns
 returns c =
-    let t = c .before .before .before .before in
-    let i = c .before .before .before .before .before .before .before .before in
+    let w = c .before .before .before .before in
+    let i = w .before .before .before in
     let b = i .before .before .before in
     let s = b .before .before .before .before in
     let a = s .args in
-    let here : 0 ≡ a .position = omega (arith, s .pre .1 .0, b .block-length .ensures, i .before .if1 .taken) in
-    passed-alike (formatOf (a .method)) (a .member) (t .pass-on .result) (a .work .now) _ (a .tag .now) _ (a .position) 0 (a .register) (i .before .before .start .result)
-    (a .bytes .now) _ here (sym (i .if2 .taken)) (take-all (b .block-length .result - 0) (a .bytes .now) (omega (arith, i .before .if1 .taken))) (t .pass-on .ensures)
+    let here : 0 ≡ a .position = omega (arith, s .pre .1 .0, b .block-length .ensures, i .before .before .if1 .taken) in
+    passed-alike (formatOf (a .method)) (a .member) (w .pass-whole .result) (a .work .now) _ (a .tag .now) _ (a .position) 0 (a .register) (formatOf (a .method) .start)
+    (a .bytes .now) (a .bytes .now) here (sym (i .if2 .taken ∙ i .before .start .ensures)) refl (w .pass-whole .ensures)
 
-pass-on-requires-2 : tie.Need-pass-on-requires-2
-pass-on-requires-2 c κs = search needs
+pass-on-requires : tie.Need-pass-on-requires
+pass-on-requires c κs = search needs
 
 same-length-3 : tie.Need-same-length-3
 same-length-3 c = search needs
@@ -62,14 +51,11 @@ pass-spec =
     (tie.spec
     block-length-requires
     start-requires
-    sub-pass-on
-    part-pass-on-start
-    part-pass-on-end
-    pass-on-requires
+    pass-whole-requires
     same-length
     same-length-2
     returns
-    pass-on-requires-2
+    pass-on-requires
     same-length-3
     same-length-4
     returns-2)

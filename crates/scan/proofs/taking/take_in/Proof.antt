@@ -1,14 +1,8 @@
 -- `scan::taking::take_in` meets its contract. Assumes nothing.
-use mathlib.Core.Path.{_≡_}
-use Prim.Native.Nat.{_+_, _<_}
 use native.Mathlib.Omega.{arith}
-use lib.ListN.{length, getD}
-use Rattle.format.proofs.Laws.{advance-narrow}
 use Rattle.tag.specs.Blocks.{formatAt}
-use Rattle.scan.specs.Scans.{dataOfPiece, buffer}
+use Rattle.scan.specs.Scans.{buffer}
 use Rattle.scan.proofs.Cuts.{advanced-by}
-use mir.Val.{Fits}
-use mir.Syntax.{w16}
 use borrow.Author.Needs.{needs}
 use Rattle.scan.proofs.taking.take_in.Statement.{statement}
 use Rattle.scan.proofs.taking.take_in.Tie as tie
@@ -22,14 +16,17 @@ array-read-position c = search needs
 cast-position : tie.Need-cast-position
 cast-position c = search needs
 
-mul-pass : tie.Need-mul-pass
-mul-pass c = search needs
+mul-register-of : tie.Need-mul-register-of
+mul-register-of c = search needs
 
-array-read-pass : tie.Need-array-read-pass
-array-read-pass c = search needs
+array-read-register-of : tie.Need-array-read-register-of
+array-read-register-of c = search needs
 
-cast-pass : tie.Need-cast-pass
-cast-pass c = search needs
+array-read-register-of-2 : tie.Need-array-read-register-of-2
+array-read-register-of-2 c = search needs
+
+register-of-requires : tie.Need-register-of-requires
+register-of-requires c κs = search needs
 
 slice-aggregate-pass : tie.Need-slice-aggregate-pass
 slice-aggregate-pass c = search needs
@@ -41,10 +38,16 @@ cast-replaced : tie.Need-cast-replaced
 cast-replaced c = search needs
 
 add-replaced : tie.Need-add-replaced
-add-replaced c = let s = c .before .before .before .before .before .before .before .before .before .before .before .before in let F = formatAt (s .args .state .array) in omega (arith, s .pre .1 .0, F .block-parts, F .data-most, F .tag-quarters, F .quarter-most)
+add-replaced c =
+    let s = c .before .before .before .before .before .before .before .before .before .before .before .before .before .before in
+    let F = formatAt (s .args .state .array) in
+    omega (arith, s .pre .1 .0, F .block-parts, F .data-most, F .tag-quarters, F .quarter-most)
 
 cast-replaced-2 : tie.Need-cast-replaced-2
-cast-replaced-2 c = let s = c .before .before .before .before .before .before .before .before .before .before .before .before in let F = formatAt (s .args .state .array) in omega (arith, s .pre .1 .0, F .block-parts, F .data-most, F .tag-quarters, F .quarter-most)
+cast-replaced-2 c =
+    let s = c .before .before .before .before .before .before .before .before .before .before .before .before .before .before in
+    let F = formatAt (s .args .state .array) in
+    omega (arith, s .pre .1 .0, F .block-parts, F .data-most, F .tag-quarters, F .quarter-most)
 
 replaced-requires : tie.Need-replaced-requires
 replaced-requires c κs = search needs
@@ -52,33 +55,34 @@ replaced-requires c κs = search needs
 cast-replaced-3 : tie.Need-cast-replaced-3
 cast-replaced-3 c = search needs
 
-register-small : (c : tie.After-pass) → let a = c .before .before .before .before .before .before .before .before .before .args in Fits w16 (getD (a .state .register) (a .member) 0)
-register-small c = search needs
-
-cast-replaced-4 : tie.Need-cast-replaced-4
-cast-replaced-4 c =
-    let p = c .before .before .before .before in
-    let a = p .before .before .before .before .before .before .before .before .before .args in
-    let at = getD (a .state .at) (a .member) 0 in
-    omega (arith, p .pass .ensures .0, advance-narrow at (getD (a .state .register) (a .member) 0) (dataOfPiece (formatAt (a .state .array)) at (a .bytes .now)) (omega (arith, register-small p)))
+value-in-requires : tie.Need-value-in-requires
+value-in-requires c κs = search needs
 
 replaced-requires-2 : tie.Need-replaced-requires-2
 replaced-requires-2 c κs = search needs
 
+waiting-in-requires : tie.Need-waiting-in-requires
+waiting-in-requires c κs = search needs
+
+replaced-byte-requires : tie.Need-replaced-byte-requires
+replaced-byte-requires c κs = search needs
+
 same-length : tie.Need-same-length
 same-length c = search needs
-
-register-long : (c : tie.After-pass) → length (c .before .before .before .before .before .before .before .before .before .args .state .register) ≡ 16
-register-long c = search needs
 
 returns : tie.Need-returns
 unfolding buffer
 returns c =
-    let p = c .before .before .before .before .before in
-    let s = p .before .before .before .before .before .before .before .before .before in
+    let w = c .before in
+    let v = w .before .before in
+    let p = v .before .before .before .before .before in
+    let r = p .before .before .before in
+    let s = r .before .before .before .before .before .before .before .before in
     let a = s .args in (
-      advanced-by (a .state) (a .member) (a .bytes .now) (register-long p) (s .pre .0) (c .before .replaced .result) (c .replaced2 .result) (p .pass .result) _
-          (p .pass .ensures .0) (c .before .replaced .ensures) (c .replaced2 .ensures) (p .pass .ensures .1 .1),
+      advanced-by (a .state) (a .member) (a .bytes .now) (v .before .replaced .result) (w .before .replaced2 .result) (c .replaced-byte .result)
+          (r .register-of .result) (p .pass .result) (v .value-in .result) (w .waiting-in .result) _
+          (r .register-of .ensures) (p .pass .ensures .0) (v .value-in .ensures) (w .waiting-in .ensures)
+          (v .before .replaced .ensures) (w .before .replaced2 .ensures) (c .replaced-byte .ensures) (p .pass .ensures .1 .1),
       p .pass .ensures .1 .0,
     )
 
@@ -89,9 +93,10 @@ take-in-spec =
     mul-position
     array-read-position
     cast-position
-    mul-pass
-    array-read-pass
-    cast-pass
+    mul-register-of
+    array-read-register-of
+    array-read-register-of-2
+    register-of-requires
     slice-aggregate-pass
     pass-requires
     cast-replaced
@@ -99,7 +104,9 @@ take-in-spec =
     cast-replaced-2
     replaced-requires
     cast-replaced-3
-    cast-replaced-4
+    value-in-requires
     replaced-requires-2
+    waiting-in-requires
+    replaced-byte-requires
     same-length
     returns)

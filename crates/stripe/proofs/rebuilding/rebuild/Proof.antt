@@ -1,32 +1,29 @@
 -- `stripe::rebuilding::rebuild` meets its contract.
 -- Assumes nothing.
 use mathlib.Core.Path.{_≡_, sym, ap, _∙_}
+use mathlib.Core.Bool.{true, false}
 use mathlib.Core.List.{List}
+use mathlib.Core.Logic.{_≢_}
 use Prim.Native.Nat.{ℕ, _-_}
 use native.Mathlib.Omega.{arith}
+use borrow.Author.Tests.{not-true, not-false}
 use lib.ListN.{length, take}
-use Rattle.format.specs.Formats.{guardsOf}
-use Rattle.format.proofs.Laws.{combines}
+use Rattle.format.specs.Formats.{guard, guardsOf}
 use Rattle.format.proofs.Sizes.{times-next}
 use Rattle.layout.specs.declared.Array.{Array}
-use Rattle.tag.specs.Blocks.{formatAt}
-use Rattle.tag.specs.Tags.{tagged}
 use Rattle.layout.proofs.Ranges.{place-sound}
-use Rattle.stripe.specs.Stripes.{othersData}
+use Rattle.tag.specs.Blocks.{formatAt}
+use Rattle.tag.specs.Tags.{guardDue, taggedBy, tagged}
+use Rattle.tag.proofs.Tagged.{tagged-by}
+use Rattle.stripe.specs.Stripes.{othersData, othersGuards, guardsFit}
 use Rattle.stripe.specs.Jobs.{withBlock, rebuilt}
+use Rattle.stripe.specs.Steps.{sourcesRefusal}
 use Rattle.stripe.proofs.Fronts.{lent-front}
-use Rattle.stripe.specs.Accepted.{Sources}
 use Rattle.stripe.proofs.Rows.{length-othersData}
-use Rattle.stripe.proofs.Rebuilds.{rebuild-sources, rebuild-kept, rebuild-done}
-use Rattle.stripe.proofs.Guards.{rebuilt-guard}
+use Rattle.stripe.proofs.Rebuilds.{Serving, sources-serving, rebuild-sources-refused, rebuild-fits, rebuild-kept, rebuild-done}
 use borrow.Author.Needs.{needs}
 use Rattle.stripe.proofs.rebuilding.rebuild.Statement.{statement}
 use Rattle.stripe.proofs.rebuilding.rebuild.Tie as tie
-
-made : (a : Array) (stripe member : ℕ) (bytes content last : List ℕ) → content ≡ othersData (formatAt a) (a .members) member bytes
-    → last ≡ withBlock (formatAt a) bytes member (tagged a stripe member content) → last ≡ rebuilt a stripe member bytes
-unfolding rebuilt
-made a stripe member bytes content last e f = f ∙ ap (λ (l : List ℕ). withBlock (formatAt a) bytes member (tagged a stripe member l)) e
 
 block-length-requires : tie.Need-block-length-requires
 block-length-requires c κs = search needs
@@ -34,8 +31,8 @@ block-length-requires c κs = search needs
 guards-requires : tie.Need-guards-requires
 guards-requires c κs = search needs
 
-rebuild-refusal-requires : tie.Need-rebuild-refusal-requires
-rebuild-refusal-requires c κs =
+sources-refusal-requires : tie.Need-sources-refusal-requires
+sources-refusal-requires c κs =
     let a = c .before .before .before .before .before .args in
     c .before .guards .ensures ∙ ap (λ (k : ℕ). guardsOf (formatAt (a .array)) 16 k (a .bytes .now)) (c .before .before .block-length .ensures)
 
@@ -44,16 +41,30 @@ same-length c = search needs
 
 returns : tie.Need-returns
 returns c =
-    let k = c .before .rebuild-refusal in
+    let k = c .before .sources-refusal in
     let a = c .before .before .before .before .before .before .before .args in
-    (k .ensures, rebuild-kept (a .array) (a .stripe) (a .member) (a .bytes .now) (λ e. c .if1 .taken (k .ensures ∙ e)))
+    let refused : sourcesRefusal (a .array) (a .stripe) (a .member) (a .bytes .now) ≢ 0 = λ e. c .if1 .taken (k .ensures ∙ e) in
+    let same = rebuild-sources-refused (a .array) (a .stripe) (a .member) (a .bytes .now) refused in
+    (k .ensures ∙ sym same, rebuild-kept (a .array) (a .stripe) (a .member) (a .bytes .now) (λ e. refused (sym same ∙ e)))
 
--- what is so where nothing is refused
-sources : (c : tie.After-data-length) → let a = c .before .before .before .before .before .before .before .before .args in Sources (a .array) (a .stripe) (a .member) (a .bytes .now)
-sources c =
+-- what is so where the others serve
+serving : (c : tie.After-data-length) → let a = c .before .before .before .before .before .before .before .before .args in Serving (a .array) (a .stripe) (a .member) (a .bytes .now)
+serving c =
     let k = c .before .before in
     let a = k .before .before .before .before .before .before .args in
-    rebuild-sources (a .array) (a .stripe) (a .member) (a .bytes .now) (sym (k .rebuild-refusal .ensures) ∙ c .before .if1 .left)
+    sources-serving (a .array) (a .stripe) (a .member) (a .bytes .now) (sym (k .sources-refusal .ensures) ∙ c .before .if1 .left)
+
+nine-some : _≡_ {A = ℕ} 9 0 → ⊥
+nine-some e = omega arith
+
+-- the block that is written is the one due
+made-again : (a : Array) (stripe member g : ℕ) (bytes content last : List ℕ) → content ≡ othersData (formatAt a) (a .members) member bytes
+    → g ≡ guardDue a stripe member (othersGuards (formatAt a) (a .members) member bytes) (guard (formatAt a) content)
+    → last ≡ withBlock (formatAt a) bytes member (taggedBy a stripe member g content) → last ≡ rebuilt a stripe member bytes
+unfolding rebuilt
+made-again a stripe member g bytes content last e eg f =
+    let guards = othersGuards (formatAt a) (a .members) member bytes in
+    f ∙ ap (withBlock (formatAt a) bytes member) (tagged-by a stripe member guards g content eg ∙ ap (tagged a stripe member guards) e)
 
 data-length-requires : tie.Need-data-length-requires
 data-length-requires c κs = search needs
@@ -64,32 +75,71 @@ slice-aggregate-combined c = search needs
 combined-requires : tie.Need-combined-requires
 combined-requires c κs =
     let d = c .before .before in
-    (omega (arith, sources d .long), formatAt (d .before .before .before .before .before .before .before .before .args .array) .data-most)
+    let k = d .before .before in
+    let gs = k .before .before in
+    let step = gs .before in
+    let s = step .before .before .before in
+    let a = s .args in
+    let F = formatAt (a .array) in
+    let from = serving d in
+    (omega (arith, from .long), F .data-most)
 
-sub-combined-wide : tie.Need-sub-combined-wide
-sub-combined-wide c = search needs
+sub-made : tie.Need-sub-made
+sub-made c = search needs
 
-part-combined-wide-start : tie.Need-part-combined-wide-start
-part-combined-wide-start c = search needs
+part-made-start : tie.Need-part-made-start
+part-made-start c = search needs
 
-part-combined-wide-end : tie.Need-part-combined-wide-end
-part-combined-wide-end c = omega (arith, place-sound _ _ _ (sources (c .before .before .before .before .before) .place) .stripe .array .many)
+part-made-end : tie.Need-part-made-end
+part-made-end c =
+    let d = c .before .before .before .before .before .before in
+    let F = formatAt (d .before .before .before .before .before .before .before .before .args .array) in
+    omega (arith, F .data-most, d .data-length .ensures)
 
-combined-wide-requires : tie.Need-combined-wide-requires
-combined-wide-requires c κs = search needs
+made-requires : tie.Need-made-requires
+made-requires c κs =
+    let d = c .before .before .before .before .before .before .before in
+    let k = d .before .before in
+    let gs = k .before .before in
+    let step = gs .before in
+    let s = step .before .before .before in
+    let a = s .args in
+    let F = formatAt (a .array) in
+    let from = serving d in
+    let m = c .before .before .before .before in
+    let whole = othersData F (a .array .members) (a .member) (a .bytes .now) in
+    let content = m .combined .last .1 .1 .1 .1 .0 in (
+      from .place,
+      (
+        from .long,
+        (
+          gs .guards .ensures ∙ ap (λ (k : ℕ). guardsOf F 16 k (a .bytes .now)) (step .block-length .ensures),
+          lent-front whole content (d .data-length .result) (F .dataLength) (d .data-length .ensures) (m .combined .ensures),
+        ),
+      ),
+    )
 
-mul-others : tie.Need-mul-others
-mul-others c =
-    let place = place-sound _ _ _ (sources (c .before .before .before .before .before .before .before) .place) in
-    omega (arith, place .here, place .stripe .array .many)
+same-length-2 : tie.Need-same-length-2
+same-length-2 c = search needs
 
-array-read-others : tie.Need-array-read-others
-array-read-others c =
-    let place = place-sound _ _ _ (sources (c .before .before .before .before .before .before .before) .place) in
-    omega (arith, place .here, place .stripe .array .many)
-
-blank-if-odd-requires : tie.Need-blank-if-odd-requires
-blank-if-odd-requires c κs = search needs
+returns-2 : tie.Need-returns-2
+returns-2 c =
+    let d = c .before .before .before .before .before .before .before .before .before .before in
+    let k = d .before .before in
+    let gs = k .before .before in
+    let step = gs .before in
+    let s = step .before .before .before in
+    let a = s .args in
+    let F = formatAt (a .array) in
+    let from = serving d in
+    let m = c .before .before .before .before .before .before .before in
+    let v = c .before .before in
+    let whole = othersData F (a .array .members) (a .member) (a .bytes .now) in
+    let content = m .combined .last .1 .1 .1 .1 .0 in
+    let same = lent-front whole content (d .data-length .result) (F .dataLength) (d .data-length .ensures) (m .combined .ensures) in
+    let unfit = ap (λ (l : List ℕ). guardsFit (a .array) (a .stripe) (a .member) (a .bytes .now) (guard F l)) (sym same) ∙ sym (v .made .ensures .1) ∙ not-true (v .made .result .fits) (c .if2 .taken) in
+    let nine = rebuild-fits (a .array) (a .stripe) (a .member) (a .bytes .now) from false unfit in
+    (sym nine, rebuild-kept (a .array) (a .stripe) (a .member) (a .bytes .now) (λ e. nine-some (sym nine ∙ e)))
 
 sub-write-block : tie.Need-sub-write-block
 sub-write-block c = search needs
@@ -99,49 +149,52 @@ part-write-block-start c = search needs
 
 part-write-block-end : tie.Need-part-write-block-end
 part-write-block-end c =
-    let l = c .before .before .before .before .before .before .before .before .before in
-    let a = l .before .before .before .before .before .before .before .before .args in
-    omega (arith, formatAt (a .array) .data-most, l .data-length .ensures)
+    let d = c .before .before .before .before .before .before .before .before .before .before .before in
+    let F = formatAt (d .before .before .before .before .before .before .before .before .args .array) in
+    omega (arith, F .data-most, d .data-length .ensures)
 
 write-block-requires : tie.Need-write-block-requires
 write-block-requires c κs =
-    let odd = c .before .before .before in
-    let g = odd .before in
-    let m = g .before .before .before .before in
-    let l = m .before .before .before in
-    let k = l .before .before in
+    let d = c .before .before .before .before .before .before .before .before .before .before .before .before .before in
+    let k = d .before .before in
     let gs = k .before .before in
     let step = gs .before in
-    let a = step .before .before .before .args in
+    let s = step .before .before .before in
+    let a = s .args in
     let F = formatAt (a .array) in
-    let found = sources l in
-    let content = m .combined .last .1 .1 .1 .1 .0 in
+    let from = serving d in
+    let m = c .before .before .before .before .before .before .before .before .before .before in
     let whole = othersData F (a .array .members) (a .member) (a .bytes .now) in
-    let same = lent-front whole content (l .data-length .result) (F .dataLength) (l .data-length .ensures) (m .combined .ensures) in
-    let count : length (take (l .data-length .result - 0) content) ≡ F .dataLength = ap length same ∙ length-othersData F (a .array .members) (a .member) (a .bytes .now) in
-    let place = place-sound (a .array) (a .stripe) (a .member) (found .place) in
-    let right = rebuilt-guard F (combines 1) (a .bytes .now) (a .array .members) (a .member) (place .stripe .array .many) (place .here) (omega (arith, found .long))
-    (step .block-length .result) (g .combined-wide .result) (odd .blank-if-odd .result) (gs .guards .result) (take (l .data-length .result - 0) content)
-    (step .block-length .ensures) (gs .guards .ensures) (g .combined-wide .ensures) (odd .blank-if-odd .ensures) same in
-    (found .place, (count, (omega (arith, found .long, times-next (F .blockLength) (a .member) (a .array .members) (place .here)), right)))
+    let content = m .combined .last .1 .1 .1 .1 .0 in
+    let same = lent-front whole content (d .data-length .result) (F .dataLength) (d .data-length .ensures) (m .combined .ensures) in
+    let count : length (take (d .data-length .result - 0) content) ≡ F .dataLength = ap length same ∙ length-othersData F (a .array .members) (a .member) (a .bytes .now) in
+    let here = place-sound (a .array) (a .stripe) (a .member) (from .place) .here in
+    (from .place, (count, omega (arith, from .long, times-next (F .blockLength) (a .member) (a .array .members) here)))
 
-same-length-2 : tie.Need-same-length-2
-same-length-2 c = search needs
+same-length-3 : tie.Need-same-length-3
+same-length-3 c = search needs
 
-returns-2 : tie.Need-returns-2
-returns-2 c =
+returns-3 : tie.Need-returns-3
+returns-3 c =
+    let d = c .before .before .before .before .before .before .before .before .before .before .before .before .before .before .before .before in
+    let k = d .before .before in
+    let gs = k .before .before in
+    let step = gs .before in
+    let s = step .before .before .before in
+    let a = s .args in
+    let F = formatAt (a .array) in
+    let from = serving d in
     let w = c .before .before in
-    let m = w .before .before .before .before .before .before .before .before .before in
-    let l = m .before .before .before in
-    let k = l .before .before in
-    let a = k .before .before .before .before .before .before .args in
-    let F = formatAt (a .array) in
-    let content = m .combined .last .1 .1 .1 .1 .0 in
+    let i = c .before .before .before .before .before .before in
+    let v = c .before .before .before .before .before .before .before .before in
+    let m = c .before .before .before .before .before .before .before .before .before .before .before .before .before in
     let whole = othersData F (a .array .members) (a .member) (a .bytes .now) in
-    let same = lent-front whole content (l .data-length .result) (F .dataLength) (l .data-length .ensures) (m .combined .ensures) in
-    let none = sym (k .rebuild-refusal .ensures) ∙ l .before .if1 .left in (
+    let content = m .combined .last .1 .1 .1 .1 .0 in
+    let same = lent-front whole content (d .data-length .result) (F .dataLength) (d .data-length .ensures) (m .combined .ensures) in
+    let fit = ap (λ (l : List ℕ). guardsFit (a .array) (a .stripe) (a .member) (a .bytes .now) (guard F l)) (sym same) ∙ sym (v .made .ensures .1) ∙ not-false (v .made .result .fits) (i .if2 .left) in
+    let none = rebuild-fits (a .array) (a .stripe) (a .member) (a .bytes .now) from true fit in (
       sym none,
-      made (a .array) (a .stripe) (a .member) (a .bytes .now) (take (l .data-length .result - 0) content) (w .write-block .last .1 .1 .1 .1 .1 .0) same (w .write-block .ensures)
+      made-again (a .array) (a .stripe) (a .member) (v .made .result .guard) (a .bytes .now) (take (d .data-length .result - 0) content) (w .write-block .last .1 .1 .1 .1 .1 .0) same (v .made .ensures .0) (w .write-block .ensures)
           ∙ rebuild-done (a .array) (a .stripe) (a .member) (a .bytes .now) none,
     )
 
@@ -151,22 +204,21 @@ rebuild-spec =
     (tie.spec
     block-length-requires
     guards-requires
-    rebuild-refusal-requires
+    sources-refusal-requires
     same-length
     returns
     data-length-requires
     slice-aggregate-combined
     combined-requires
-    sub-combined-wide
-    part-combined-wide-start
-    part-combined-wide-end
-    combined-wide-requires
-    mul-others
-    array-read-others
-    blank-if-odd-requires
+    sub-made
+    part-made-start
+    part-made-end
+    made-requires
+    same-length-2
+    returns-2
     sub-write-block
     part-write-block-start
     part-write-block-end
     write-block-requires
-    same-length-2
-    returns-2)
+    same-length-3
+    returns-3)

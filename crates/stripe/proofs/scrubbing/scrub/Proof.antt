@@ -40,6 +40,12 @@ combined-requires c κs =
     let sound = sym (i .before .scrub-refusal .ensures) ∙ i .if1 .left in
     (omega (arith, scrub-sound (a .array) (a .stripe) (length (a .bytes .now)) sound .1), formatAt (a .array) .data-most)
 
+guards-left-requires : tie.Need-guards-left-requires
+guards-left-requires c κs =
+    let i = c .before .before .before .before .before in
+    let a = i .before .before .before .args in
+    omega (arith, scrub-sound (a .array) (a .stripe) (length (a .bytes .now)) (sym (i .before .scrub-refusal .ensures) ∙ i .if1 .left) .1)
+
 sub-judge : tie.Need-sub-judge
 sub-judge c = search needs
 
@@ -48,7 +54,7 @@ part-judge-start c = search needs
 
 part-judge-end : tie.Need-part-judge-end
 part-judge-end c =
-    let i = c .before .before .before .before .before .before in
+    let i = c .before .before .before .before .before .before .before in
     let a = i .before .before .before .args in
     omega (arith, stripe-sound (a .array) (a .stripe) (scrub-sound (a .array) (a .stripe) (length (a .bytes .now)) (sym (i .before .scrub-refusal .ensures) ∙ i .if1 .left) .0) .array .many)
 
@@ -60,7 +66,7 @@ part-judge-start-2 c = search needs
 
 part-judge-end-2 : tie.Need-part-judge-end-2
 part-judge-end-2 c =
-    let l = c .before .before .before .before .before .before in
+    let l = c .before .before .before .before .before .before .before in
     let a = l .before .before .before .before .before .args in
     omega (arith, formatAt (a .array) .data-most, l .data-length .ensures)
 
@@ -69,7 +75,8 @@ judge-requires c κs = search needs
 
 returns-2 : tie.Need-returns-2
 returns-2 c =
-    let d = c .before .before .before .before .before .before in
+    let g = c .before .before .before .before .before in
+    let d = g .before .before in
     let l = d .before .before in
     let m = l .before in
     let r = m .before .before in
@@ -79,9 +86,9 @@ returns-2 c =
     let last = d .combined .last .1 .1 .1 .1 .0 in
     ap (λ (l : List ℕ). 1 ∷ 0 ∷ l) (c .judge .ensures)
     ∙ sym (scrub-found (a .array) (a .stripe) (a .bytes .now) (sym (r .scrub-refusal .ensures) ∙ m .before .if1 .left)
-    (take (a .array .members - 0) (m .standings .result)) (take (l .data-length .result - 0) last)
+    (take (a .array .members - 0) (m .standings .result)) (take (l .data-length .result - 0) last) (g .guards-left .result)
     (lent-front (standings (a .array) (a .stripe) (a .bytes .now)) (m .standings .result) (a .array .members) (a .array .members) refl (m .standings .ensures))
-    (lent-front whole last (l .data-length .result) (F .dataLength) (l .data-length .ensures) (d .combined .ensures)))
+    (lent-front whole last (l .data-length .result) (F .dataLength) (l .data-length .ensures) (d .combined .ensures)) (g .guards-left .ensures))
 
 pub scrub-spec : {M : Type 1} → statement M
 scrub-spec =
@@ -93,6 +100,7 @@ scrub-spec =
     data-length-requires
     slice-aggregate-combined
     combined-requires
+    guards-left-requires
     sub-judge
     part-judge-start
     part-judge-end

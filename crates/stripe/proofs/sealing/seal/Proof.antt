@@ -80,8 +80,11 @@ part-combined-wide-end c = omega (arith, stripe-sound _ _ (fitting (c .before .b
 combined-wide-requires : tie.Need-combined-wide-requires
 combined-wide-requires c κs = search needs
 
-blank-if-odd-requires : tie.Need-blank-if-odd-requires
-blank-if-odd-requires c κs = search needs
+settled-requires : tie.Need-settled-requires
+settled-requires c κs = search needs
+
+wide-requires : tie.Need-wide-requires
+wide-requires c κs = search needs
 
 sub-write-block : tie.Need-sub-write-block
 sub-write-block c = search needs
@@ -90,17 +93,17 @@ part-write-block-start : tie.Need-part-write-block-start
 part-write-block-start c = search needs
 
 part-write-block-end : tie.Need-part-write-block-end
-part-write-block-end c = let F = formatAt (c .before .before .before .before .before .before .before .before .before .before .before .before .before .before .before .before .before .before .before .before .args .array) in omega (arith, F .data-most, c .before .before .before .before .before .before .before .before .before .before .before .before .before .before .before .data-length .ensures)
+part-write-block-end c =
+    let d = c .before .before .before .before .before .before .before .before .before .before .before .before .before .before .before .before in
+    let F = formatAt (d .before .before .before .before .before .args .array) in
+    omega (arith, F .data-most, d .data-length .ensures)
 
 write-block-requires : tie.Need-write-block-requires
 write-block-requires c κs =
-    let odd = c .before .before .before in
-    let e = c .before .before .before .before in
-    let m = c .before .before .before .before .before .before .before .before in
-    let p = c .before .before .before .before .before .before .before .before .before .before .before in
-    let w = c .before .before .before .before .before .before .before .before .before .before .before .before .before .before in
-    let g = c .before .before .before .before .before .before .before .before .before .before .before .before .before .before .before .before in
-    let d = c .before .before .before .before .before .before .before .before .before .before .before .before .before .before .before .before .before in
+    let m = c .before .before .before .before .before .before .before .before .before in
+    let p = c .before .before .before .before .before .before .before .before .before .before .before .before in
+    let w = c .before .before .before .before .before .before .before .before .before .before .before .before .before .before .before in
+    let d = c .before .before .before .before .before .before .before .before .before .before .before .before .before .before .before .before .before .before in
     let a = d .before .before .before .before .before .args in
     let F = formatAt (a .array) in
     let fits = fitting d in
@@ -112,12 +115,9 @@ write-block-requires c κs =
     let long : length written ≡ stripeLength (a .array) =
     ap length (w .write-data .ensures) ∙ length-written (a .array) (a .stripe) (a .content .now) sound (fits .content-long) (a .bytes .now) (fits .stripe-long) in
     let count : length (take (d .data-length .result - 0) content) ≡ F .dataLength = ap length same ∙ length-othersData F (a .array .members) (p .parity-member .result) written in
-    let below : p .parity-member .result < a .array .members = rw (p .parity-member .ensures) (parity-below (a .array) (a .stripe) (omega (arith, sound .array .few))) in
-    let right = parity-guard (a .array) (a .stripe) (a .content .now) sound (fits .content-long) (a .bytes .now) (fits .stripe-long)
-    (p .parity-member .result) (d .data-length .result) (e .combined-wide .result) (odd .blank-if-odd .result) written (take (d .data-length .result - 0) content) (g .guards .result)
-    (p .parity-member .ensures) (w .write-data .ensures) same (d .data-length .ensures) (g .guards .ensures) (e .combined-wide .ensures) (odd .blank-if-odd .ensures) in (
+    let below : p .parity-member .result < a .array .members = rw (p .parity-member .ensures) (parity-below (a .array) (a .stripe) (omega (arith, sound .array .few))) in (
       sound-place (a .array) (a .stripe) (p .parity-member .result) (record { stripe = sound; here = below }),
-      (count, (omega (arith, long, times-next (F .blockLength) (p .parity-member .result) (a .array .members) below), right)),
+      (count, omega (arith, long, times-next (F .blockLength) (p .parity-member .result) (a .array .members) below)),
     )
 
 same-length : tie.Need-same-length
@@ -126,10 +126,14 @@ same-length c = search needs
 returns-2 : tie.Need-returns-2
 returns-2 c =
     let b = c .before .before in
-    let m = c .before .before .before .before .before .before .before .before .before .before .before in
-    let p = c .before .before .before .before .before .before .before .before .before .before .before .before .before .before in
-    let w = c .before .before .before .before .before .before .before .before .before .before .before .before .before .before .before .before .before in
-    let d = c .before .before .before .before .before .before .before .before .before .before .before .before .before .before .before .before .before .before .before .before in
+    let r = c .before .before .before .before .before .before in
+    let odd = r .before in
+    let e = odd .before in
+    let m = c .before .before .before .before .before .before .before .before .before .before .before .before in
+    let p = c .before .before .before .before .before .before .before .before .before .before .before .before .before .before .before in
+    let w = c .before .before .before .before .before .before .before .before .before .before .before .before .before .before .before .before .before .before in
+    let g = c .before .before .before .before .before .before .before .before .before .before .before .before .before .before .before .before .before .before .before .before in
+    let d = g .before in
     let k = d .before .before in
     let a = d .before .before .before .before .before .args in
     let F = formatAt (a .array) in
@@ -139,11 +143,15 @@ returns-2 c =
     let content = m .combined .last .1 .1 .1 .1 .0 in
     let whole = othersData F (a .array .members) (p .parity-member .result) written in
     let same = lent-front whole content (d .data-length .result) (F .dataLength) (d .data-length .ensures) (m .combined .ensures) in
+    let made = take (d .data-length .result - 0) content in
+    let right = parity-guard (a .array) (a .stripe) (a .content .now) sound (fits .content-long) (a .bytes .now) (fits .stripe-long)
+    (p .parity-member .result) (d .data-length .result) (e .combined-wide .result) (odd .settled .result) written made (g .guards .result)
+    (p .parity-member .ensures) (w .write-data .ensures) same (d .data-length .ensures) (g .guards .ensures) (e .combined-wide .ensures) (odd .settled .ensures) in
     let none = sym (k .seal-refusal .ensures) ∙ d .before .if1 .left in (
       sym none,
       sealed-by-calls (a .array) (a .stripe) (a .content .now) sound (fits .content-long) (a .bytes .now) (fits .stripe-long)
-          (p .parity-member .result) written (take (d .data-length .result - 0) content) (b .write-block .last .1 .1 .1 .1 .1 .0)
-          (p .parity-member .ensures) (w .write-data .ensures) same (b .write-block .ensures)
+          (p .parity-member .result) (r .wide .result) written made (b .write-block .last .1 .1 .1 .1 .1 .0)
+          (p .parity-member .ensures) (w .write-data .ensures) same (r .wide .ensures ∙ right) (b .write-block .ensures)
           ∙ seal-done (a .array) (a .stripe) (a .content .now) (a .bytes .now) none,
     )
 
@@ -164,7 +172,8 @@ seal-spec =
     part-combined-wide-start
     part-combined-wide-end
     combined-wide-requires
-    blank-if-odd-requires
+    settled-requires
+    wide-requires
     sub-write-block
     part-write-block-start
     part-write-block-end

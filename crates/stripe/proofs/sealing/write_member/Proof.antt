@@ -15,8 +15,10 @@ use Rattle.layout.proofs.Ranges.{place-sound}
 use Rattle.layout.proofs.Members.{index-below}
 use Rattle.tag.specs.Blocks.{formatAt}
 use Rattle.tag.specs.Tags.{tagged}
+use Rattle.tag.proofs.Guards.{own-data, guard-own}
+use Rattle.tag.proofs.Tagged.{tagged-by}
 use Rattle.stripe.specs.Tables.{part, span}
-use Rattle.stripe.specs.Jobs.{withBlock}
+use Rattle.stripe.specs.Jobs.{withBlock, guardOfParts}
 use Rattle.stripe.proofs.Rows.{lent-span, length-span}
 use Rattle.stripe.proofs.Rooms.{block-room}
 use Rattle.stripe.proofs.Guards.{part-guard}
@@ -83,13 +85,11 @@ write-block-requires c κs =
     let a = s .args in
     let F = formatAt (a .array) in
     let here = inside i in
-    let lent = lent-span (f .data-at .result) (d .data-length .result) (a .content .now) ∙ ap₂ (λ (k n : ℕ). span k n (a .content .now)) (f .data-at .ensures) (d .data-length .ensures) in
-    let right = s .pre .1 .1 .1 ∙ ap (λ (k : ℕ). getD (guardsOf F 16 (F .dataLength) (a .content .now)) k 0) (sym (i .index-at .ensures))
-    ∙ part-guard F (a .content .now) (i .index-at .result) (omega (arith, small i, many i)) ∙ ap (guard F) (sym lent) in (
+    let lent = lent-span (f .data-at .result) (d .data-length .result) (a .content .now) ∙ ap₂ (λ (k n : ℕ). span k n (a .content .now)) (f .data-at .ensures) (d .data-length .ensures) in (
       s .pre .0,
       (
         ap length lent ∙ length-span (F .dataLength * i .index-at .result) (F .dataLength) (a .content .now) here,
-        (block-room (a .array) (a .stripe) (a .member) (s .pre .0) (a .bytes .now) (s .pre .1 .1 .0), right),
+        block-room (a .array) (a .stripe) (a .member) (s .pre .0) (a .bytes .now) (s .pre .1 .1 .0),
       ),
     )
 
@@ -105,9 +105,14 @@ returns-2 c =
     let a = s .args in
     let F = formatAt (a .array) in
     let lent = lent-span (f .data-at .result) (d .data-length .result) (a .content .now) ∙ ap₂ (λ (k n : ℕ). span k n (a .content .now)) (f .data-at .ensures) (d .data-length .ensures) in
+    let parts = guardOfParts (a .array) (a .content .now) in
+    let right = s .pre .1 .1 .1 ∙ ap (λ (k : ℕ). getD (guardsOf F 16 (F .dataLength) (a .content .now)) k 0) (sym (i .index-at .ensures))
+    ∙ part-guard F (a .content .now) (i .index-at .result) (omega (arith, small i, many i)) ∙ ap (guard F) (sym lent) in
     rw (ne-eqb (a .member) (parityMember (a .array) (a .stripe)) (not-parity i))
     (c .before .before .write-block .ensures
-    ∙ ap (λ (l : List ℕ). withBlock F (a .bytes .now) (a .member) (tagged (a .array) (a .stripe) (a .member) l))
+    ∙ ap (withBlock F (a .bytes .now) (a .member))
+    (tagged-by (a .array) (a .stripe) (a .member) parts (a .data-guard) _ (right ∙ sym (guard-own (a .array) (a .stripe) (a .member) parts _ (own-data (a .array) (a .stripe) (a .member) (not-parity i)))))
+    ∙ ap (λ (l : List ℕ). withBlock F (a .bytes .now) (a .member) (tagged (a .array) (a .stripe) (a .member) parts l))
     (lent ∙ ap (part (F .dataLength) (a .content .now)) (i .index-at .ensures)))
 
 pub write-member-spec : {M : Type 1} → statement M

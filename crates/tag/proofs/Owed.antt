@@ -1,0 +1,88 @@
+-- What is due at a place, by what lies there: a block, the parity of its stripe, or nothing.
+-- Assumes nothing.
+use mathlib.Core.Path.{_≡_, sym, ap, _∙_}
+use mathlib.Core.Bool.{Bool, true, false, cond}
+use mathlib.Core.Logic.{_≢_}
+use Prim.Native.Nat.{ℕ, _+_, _*_, _^_, _<_}
+use native.Mathlib.Decide.{ℕ-discrete}
+use native.Mathlib.Nat.{zero-add, lt-of-lt-of-le}
+use native.Mathlib.Omega.{arith}
+use borrow.Author.Tests.{eq-eqb, ne-eqb}
+use Rattle.format.proofs.Sizes.{application-small, reference-room}
+use Rattle.layout.specs.Places.{parityMember, lowestBlock, blockAt, indexAt, isParity, blockNamed, referenceOf, ownerRefusal, ownedNumbers, ownerNumbers}
+use Rattle.layout.specs.declared.Array.{Array}
+use Rattle.layout.specs.declared.Owned.{Owned}
+use Rattle.layout.specs.declared.Owned.the-variants.{Refused, Parity, Data}
+use Rattle.layout.proofs.Ranges.{sound-block}
+use Rattle.layout.proofs.Numbers.{owner-refused, owner-of-parity, owner-of-data}
+use Rattle.layout.proofs.Bijection.{named-sound}
+use Rattle.layout.proofs.References.{reference-small as reference-fits}
+use Rattle.layout.proofs.Injective.{owned-injective}
+use Rattle.tag.specs.Blocks.{formatAt}
+use Rattle.tag.specs.Tags.{applicationDue, referenceDue, due, dueAt}
+use Rattle.tag.specs.declared.Fields.{Fields}
+
+-- the fields due by an owner, as the code has them: the guard of a parity is one, that of every other block another
+abbrev pub dueTo : Array → ℕ → ℕ → Owned → Fields
+dueTo a parity own (Refused number) = record { guard = 0; application = 0; reference = 0 }
+dueTo a parity own (Parity lowest) = record { guard = parity; application = (0x8000 + a .volume) * formatAt a .scale; reference = referenceOf lowest }
+dueTo a parity own (Data block) = record { guard = own; application = a .volume * formatAt a .scale; reference = referenceOf block }
+
+module _ (a : Array) (stripe member : ℕ) where
+  -- ---- the two fields beside the guard fit their bytes
+
+  pub reference-small : ownerRefusal a stripe member ≡ 0 → referenceDue a stripe member < 2 ^ 32
+  unfolding referenceDue
+  reference-small sound =
+      let name = blockNamed a stripe member in
+      reference-fits a name (sound-block a name (named-sound a stripe member sound))
+
+  pub application-fit : a .volume < 256 → applicationDue a stripe member < 256 ^ formatAt a .quarter
+  unfolding applicationDue
+  application-fit volume = application-small (formatAt a) (cond (isParity a stripe member) 0x8000 0 + a .volume) (by-mark (isParity a stripe member))
+    where
+      by-mark : (t : Bool) → cond t 0x8000 0 + a .volume < 65536
+      by-mark true = omega arith
+      by-mark false = omega arith
+
+  pub reference-fit : ownerRefusal a stripe member ≡ 0 → referenceDue a stripe member < 256 ^ (2 * formatAt a .quarter)
+  reference-fit sound = lt-of-lt-of-le (reference-small sound) (reference-room (formatAt a))
+
+module _ (a : Array) (stripe member guard : ℕ) where
+  pub due-of-parity : member ≡ parityMember a stripe →
+      due a stripe member guard ≡ record { guard = guard; application = (0x8000 + a .volume) * formatAt a .scale; reference = referenceOf (lowestBlock a stripe) }
+  unfolding due applicationDue referenceDue blockNamed
+  due-of-parity p = rw (eq-eqb member (parityMember a stripe) p)
+
+  pub due-of-data : member ≢ parityMember a stripe →
+      due a stripe member guard
+      ≡ record { guard = guard; application = a .volume * formatAt a .scale; reference = referenceOf (blockAt a stripe (indexAt a stripe member)) }
+  unfolding due applicationDue referenceDue blockNamed
+  due-of-data p = rw (ne-eqb member (parityMember a stripe) p, zero-add)
+
+  pub due-somewhere : ownerRefusal a stripe member ≡ 0 → dueAt a stripe member guard ≡ due a stripe member guard
+  unfolding dueAt
+  due-somewhere e = rw e
+
+  pub due-nowhere : ownerRefusal a stripe member ≢ 0 → dueAt a stripe member guard ≡ record { guard = 0; application = 0; reference = 0 }
+  unfolding dueAt
+  due-nowhere e = rw (ne-eqb (ownerRefusal a stripe member) 0 e)
+
+-- the owner that a place has, whichever way it is told
+module _ (a : Array) (stripe member parity own : ℕ) (o : Owned) (told : ownedNumbers o ≡ ownerNumbers a stripe member) where
+  abbrev guard : ℕ
+  guard = cond (isParity a stripe member) parity own
+
+  pub due-by-owner : dueTo a parity own o ≡ dueAt a stripe member guard
+  due-by-owner = by-kind (ℕ-discrete (ownerRefusal a stripe member) 0) (ℕ-discrete member (parityMember a stripe))
+    where
+      by-kind : Dec (ownerRefusal a stripe member ≡ 0) → Dec (member ≡ parityMember a stripe) → dueTo a parity own o ≡ dueAt a stripe member guard
+      by-kind (no e) p =
+          ap (dueTo a parity own) (owned-injective o (Refused (ownerRefusal a stripe member)) (told ∙ owner-refused a stripe member e))
+          ∙ sym (due-nowhere a stripe member guard e)
+      by-kind (yes e) (yes p) =
+          ap (dueTo a parity own) (owned-injective o (Parity (lowestBlock a stripe)) (told ∙ owner-of-parity a stripe member e p))
+          ∙ sym (due-somewhere a stripe member guard e ∙ ap (due a stripe member) (rw (eq-eqb member (parityMember a stripe) p)) ∙ due-of-parity a stripe member parity p)
+      by-kind (yes e) (no p) =
+          ap (dueTo a parity own) (owned-injective o (Data (blockAt a stripe (indexAt a stripe member))) (told ∙ owner-of-data a stripe member e p))
+          ∙ sym (due-somewhere a stripe member guard e ∙ ap (due a stripe member) (rw (ne-eqb member (parityMember a stripe) p)) ∙ due-of-data a stripe member own p)
