@@ -2,9 +2,13 @@
 use mathlib.Core.Path.{_≡_, refl}
 use mathlib.Core.Bool.{Bool, true, false}
 use mathlib.Core.List.{List, [], _∷_, _++_}
-use Rattle.verdict.specs.Verdicts.{nonzero, standingIn, judged, verdictNumbers, quickRefusal, quickNumbers, comparedNumbers}
+use lib.ListN.{replicate}
+use Rattle.verdict.specs.Verdicts.{nonzero, standingIn, judged, verdictNumbers, quickRefusal, comparedWith, quickNumbers, comparedNumbers}
 use Rattle.verdict.specs.declared.Verdict.the-variants.{Clean, Bad, Torn, Unchecked}
+use Rattle.verdict.specs.QuickWide.{quickWideNumbers, comparedWideNumbers}
 use Rattle.verdict.specs.declared.Compared.the-variants.{Fits, Differs}
+use Rattle.verdict.specs.declared.ComparedWide.the-variants.{Fits as FitsWide, Differs as DiffersWide}
+use Rattle.verdict.proofs.QuickWide.{due-even, due-odd}
 
 abbrev none : List Bool
 none = false ∷ false ∷ false ∷ []
@@ -33,8 +37,20 @@ verdict-names = (refl, refl, refl, refl)
 -- guards that combine to zero; to 7; too few of them
 pub quick-scrubs : (quickNumbers (0x8BB7 ∷ 0x1772 ∷ 0x9CC5 ∷ []) ≡ 1 ∷ 0 ∷ 0 ∷ 0 ∷ []) × (quickNumbers (1 ∷ 2 ∷ 4 ∷ []) ≡ 1 ∷ 0 ∷ 1 ∷ 7 ∷ [])
     × (quickNumbers (1 ∷ 2 ∷ []) ≡ 0 ∷ 1 ∷ 0 ∷ 0 ∷ [])
-unfolding quickNumbers quickRefusal
+unfolding quickNumbers comparedWith quickRefusal
 quick-scrubs = (refl, refl, refl)
 
 pub quick-names : (comparedNumbers Fits ≡ 1 ∷ 0 ∷ 0 ∷ 0 ∷ []) × (comparedNumbers (Differs 7) ≡ 1 ∷ 0 ∷ 1 ∷ 7 ∷ [])
 quick-names = (refl, refl)
+
+-- four guards of thirty-two bits that combine to zero; four that combine to 7; three that combine to the guard of a block of zeros, which they
+-- are to do; three that combine to zero, and differ for that; too many of them
+pub wide-scrubs : (quickWideNumbers (0x12345678 ∷ 0x12345678 ∷ 5 ∷ 5 ∷ []) ≡ 1 ∷ 0 ∷ 0 ∷ 0 ∷ [])
+    × (quickWideNumbers (0x98F94189 ∷ 0x98F94189 ∷ 2 ∷ 5 ∷ []) ≡ 1 ∷ 0 ∷ 1 ∷ 7 ∷ [])
+    × (quickWideNumbers (0x98F94189 ∷ 0x12345678 ∷ 0x12345678 ∷ []) ≡ 1 ∷ 0 ∷ 0 ∷ 0 ∷ [])
+    × (quickWideNumbers (3 ∷ 5 ∷ 6 ∷ []) ≡ 1 ∷ 0 ∷ 1 ∷ 0 ∷ []) × (quickWideNumbers (replicate 17 0) ≡ 0 ∷ 1 ∷ 0 ∷ 0 ∷ [])
+unfolding quickWideNumbers comparedWith quickRefusal
+wide-scrubs = (rw (due-even 4 refl), rw (due-even 4 refl), rw (due-odd 3 refl), rw (due-odd 3 refl), rw (due-odd 17 refl))
+
+pub wide-names : (comparedWideNumbers FitsWide ≡ 1 ∷ 0 ∷ 0 ∷ 0 ∷ []) × (comparedWideNumbers (DiffersWide 7) ≡ 1 ∷ 0 ∷ 1 ∷ 7 ∷ [])
+wide-names = (refl, refl)

@@ -5,17 +5,17 @@ use mathlib.Core.List.{List, [], _∷_}
 use mathlib.Core.Logic.{_≢_}
 use Prim.Native.Nat.{ℕ, suc, _+_, _≤_, _<_}
 use native.Mathlib.Numerals.{add-one}
-use borrow.Author.Tests.{ne-eqb, lt-leb}
+use borrow.Author.Tests.{eq-eqb, ne-eqb, lt-leb}
 use lib.Bits.{bitXor, xor-zero-r}
 use lib.Dec.{leb, eqb}
 use lib.ListN.{length, getD, drop, drop-of-length-le}
 use lib.Seq.{drop-cons}
 use Rattle.xor.proofs.Bits.{xor-assoc}
-use Rattle.layout.specs.Answers.{refuse}
+use Rattle.layout.specs.Answers.{refuse, answer}
 use Rattle.layout.specs.Arrays.{within}
 use Rattle.layout.proofs.Answers.{answer-refused, refuse-none}
 use Rattle.layout.proofs.Ranges.{within-range, range-within}
-use Rattle.verdict.specs.Verdicts.{combinedGuards, quickRefusal, quickNumbers}
+use Rattle.verdict.specs.Verdicts.{combinedGuards, quickRefusal, comparedWith, quickNumbers}
 
 -- ---- the loop over the guards: one more, and its end
 
@@ -50,15 +50,33 @@ many-refused n h = rw (lt-leb n 16 h) (by-test (leb 3 n))
     by-test true = refl
     by-test false = refl
 
+-- what guards are compared with
+module _ (due : ℕ) (guards : List ℕ) where
+  pub compared-refused : quickRefusal (length guards) ≢ 0 → comparedWith due guards ≡ 0 ∷ quickRefusal (length guards) ∷ 0 ∷ 0 ∷ []
+  unfolding comparedWith
+  compared-refused h = by-test (eqb (combinedGuards guards) due)
+    where
+      by-test : (t : Bool) → answer (quickRefusal (length guards)) (cond t (0 ∷ 0 ∷ []) (1 ∷ combinedGuards guards ∷ [])) ≡ 0 ∷ quickRefusal (length guards) ∷ 0 ∷ 0 ∷ []
+      by-test true = answer-refused (quickRefusal (length guards)) (0 ∷ 0 ∷ []) h
+      by-test false = answer-refused (quickRefusal (length guards)) (1 ∷ combinedGuards guards ∷ []) h
+
+  pub compared-fits : quickRefusal (length guards) ≡ 0 → combinedGuards guards ≡ due → comparedWith due guards ≡ 1 ∷ 0 ∷ 0 ∷ 0 ∷ []
+  unfolding comparedWith
+  compared-fits sound e = rw (sound, eq-eqb (combinedGuards guards) due e)
+
+  pub compared-differs : quickRefusal (length guards) ≡ 0 → combinedGuards guards ≢ due → comparedWith due guards ≡ 1 ∷ 0 ∷ 1 ∷ combinedGuards guards ∷ []
+  unfolding comparedWith
+  compared-differs sound h = rw (sound, ne-eqb (combinedGuards guards) due h)
+
 module _ (guards : List ℕ) where
   pub quick-refused : quickRefusal (length guards) ≢ 0 → quickNumbers guards ≡ 0 ∷ quickRefusal (length guards) ∷ 0 ∷ 0 ∷ []
   unfolding quickNumbers
-  quick-refused h = answer-refused (quickRefusal (length guards)) (cond (eqb (combinedGuards guards) 0) 0 1 ∷ combinedGuards guards ∷ []) h
+  quick-refused = compared-refused 0 guards
 
   pub quick-fits : quickRefusal (length guards) ≡ 0 → combinedGuards guards ≡ 0 → quickNumbers guards ≡ 1 ∷ 0 ∷ 0 ∷ 0 ∷ []
   unfolding quickNumbers
-  quick-fits sound e = rw (sound, e)
+  quick-fits = compared-fits 0 guards
 
   pub quick-differs : quickRefusal (length guards) ≡ 0 → combinedGuards guards ≢ 0 → quickNumbers guards ≡ 1 ∷ 0 ∷ 1 ∷ combinedGuards guards ∷ []
   unfolding quickNumbers
-  quick-differs sound h = rw (sound, ne-eqb (combinedGuards guards) 0 h)
+  quick-differs = compared-differs 0 guards

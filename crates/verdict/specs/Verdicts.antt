@@ -73,7 +73,8 @@ abbrev pub scrubbedNumbers : Scrubbed → List ℕ
 scrubbedNumbers (Refused number) = 0 ∷ number ∷ 0 ∷ 0 ∷ 0 ∷ 0 ∷ []
 scrubbedNumbers (Found v) = 1 ∷ 0 ∷ verdictNumbers v
 
--- ---- the quick scrub: the stored guards alone. In numbers: 0 where they combine to zero (fits), 1 where not (differs), and the combination
+-- ---- the quick scrub: the stored guards alone. In numbers: 0 and 0 where they combine to what is due (fits), else 1 and what they do
+-- combine to (differs)
 
 abbrev pub combinedGuards : List ℕ → ℕ
 combinedGuards [] = 0
@@ -82,8 +83,12 @@ combinedGuards (g ∷ guards) = bitXor g (combinedGuards guards)
 unfoldable pub quickRefusal : ℕ → ℕ
 quickRefusal guards = refuse (not (within 3 16 guards)) 1 0
 
+unfoldable pub comparedWith : ℕ → List ℕ → List ℕ
+comparedWith due guards = answer (quickRefusal (length guards)) (cond (eqb (combinedGuards guards) due) (0 ∷ 0 ∷ []) (1 ∷ combinedGuards guards ∷ []))
+
+-- guards of sixteen bits have to combine to zero
 unfoldable pub quickNumbers : List ℕ → List ℕ
-quickNumbers guards = answer (quickRefusal (length guards)) (cond (eqb (combinedGuards guards) 0) 0 1 ∷ combinedGuards guards ∷ [])
+quickNumbers guards = comparedWith 0 guards
 
 abbrev pub comparedNumbers : Compared → List ℕ
 comparedNumbers (NoGuards number) = 0 ∷ number ∷ 0 ∷ 0 ∷ []

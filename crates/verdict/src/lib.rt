@@ -1,4 +1,7 @@
 // The verdict on how a stripe's members stand and on their combined data, and the quick scrub of its stored guards: all of a scrub that looks at no block.
+mod wide;
+
+pub use wide::quick_scrub_wide;
 ghost use mathlib.Core.Path.{_≡_};
 ghost use mathlib.Core.List.{[], _∷_, _++_};
 ghost use Prim.Native.Nat.{max};
@@ -60,6 +63,13 @@ pub enum Compared {
     Refused(u8),
     Fits,
     Differs { combination: u16 },
+}
+
+// What the quick scrub says of stored guards of thirty-two bits: they combine to what is due, or to something else.
+pub enum ComparedWide {
+    Refused(u8),
+    Fits,
+    Differs { combination: u32 },
 }
 
 // The greater of two bytes.
