@@ -160,6 +160,12 @@ static void places()
     DUE(sum.guard, 0);
     DUE(irumbolai_checksum(digits.data(), 0).guard, 0xFFFF);
 
+    const Bytes nine = {'1', '2', '3', '4', '5', '6', '7', '8', '9'};
+    DUE(irumbolai_crc32c(nine.data(), nine.size()), 0xE3069283);
+    DUE(irumbolai_crc32c(nine.data(), 0), 0);
+    const Bytes blank(4096);
+    DUE(irumbolai_crc32c(blank.data(), blank.size()), 0x98F94189);
+
     DUE(irumbolai_join(0x8BB7, 0x9CD9, 2), 0xE2BF);
     DUE(irumbolai_add_zeros(1, 2), 0x8BB7);
     DUE(irumbolai_remove_zeros(0x8BB7, 2), 1);
@@ -364,6 +370,25 @@ static void scrubs()
     DUE(irumbolai_quick_scrub(guards.data(), 2).refusal, 1);
 }
 
+static void due_wide(const std::vector<uint32_t> &guards, uint32_t refusal, uint32_t differs, uint32_t combination)
+{
+    struct irumbolai_quick quick = irumbolai_quick_scrub_wide(guards.data(), guards.size());
+    DUE(quick.refusal, refusal);
+    DUE(quick.differs, differs);
+    DUE(quick.combination, combination);
+}
+
+// Four guards have to combine to zero, three to the guard of a block of zeros.
+static void wide_scrubs()
+{
+    due_wide({0xFFFFFFFF, 0xFFFF0000, 0x0000FF00, 0x000000FF}, 0, 0, 0);
+    due_wide({0xFFFFFFFF, 0xFFFF0000, 0x0000FF00, 0x100000FF}, 0, 1, 0x10000000);
+    due_wide({0x98F94189, 0x98F94189, 0x98F94189}, 0, 0, 0);
+    due_wide({0x98F94189, 0x98F94189, 0}, 0, 1, 0);
+    due_wide({0, 0}, 1, 0, 0);
+    due_wide(std::vector<uint32_t>(17), 1, 0, 0);
+}
+
 // Numbers that all differ, so that no field of the state can stand for another.
 static void states()
 {
@@ -460,6 +485,7 @@ int main()
     jobs_by_sum();
     unchecked();
     scrubs();
+    wide_scrubs();
     states();
     waiting();
     due_verdict(scanned(sealed()), 0, 0, 0, 0);
