@@ -96,6 +96,7 @@ mod c {
         pub fn irumbolai_guard(bytes: *const u8, length: usize) -> u16;
         pub fn irumbolai_guards(bytes: *const u8, length: usize, stride: usize) -> Guards;
         pub fn irumbolai_checksum(bytes: *const u8, length: usize) -> Sum;
+        pub fn irumbolai_crc32c(bytes: *const u8, length: usize) -> u32;
         pub fn irumbolai_join(a: u16, b: u16, length_of_b: u32) -> u16;
         pub fn irumbolai_add_zeros(guard: u16, n: u32) -> u16;
         pub fn irumbolai_remove_zeros(guard: u16, n: u32) -> u16;
@@ -109,6 +110,7 @@ mod c {
         pub fn irumbolai_update(members: usize, stripes: u64, volume: u8, method: u8, block: u64, data: *const u8, data_length: usize, bytes: *mut u8, length: usize) -> u32;
         pub fn irumbolai_scrub(members: usize, stripes: u64, volume: u8, method: u8, stripe: u64, bytes: *const u8, length: usize) -> Verdict;
         pub fn irumbolai_quick_scrub(guards: *const u16, count: usize) -> Quick;
+        pub fn irumbolai_quick_scrub_wide(guards: *const u32, count: usize) -> Quick;
         pub fn irumbolai_start(members: usize, stripes: u64, volume: u8, method: u8, stripe: u64, work: *mut u8, work_length: usize) -> Taken;
         pub fn irumbolai_piece(state: Scan, member: usize, bytes: *const u8, length: usize, work: *mut u8, work_length: usize) -> Taken;
         pub fn irumbolai_finish(state: Scan, work: *const u8, work_length: usize) -> Verdict;
@@ -145,6 +147,15 @@ pub fn checksum(bytes: &Lent<u8>) -> Sum {
 /// The checksum of bytes where they lie.
 pub fn checksum_at(bytes: &[u8]) -> Sum {
     unsafe { c::irumbolai_checksum(bytes.as_ptr(), bytes.len()) }
+}
+
+pub fn crc32c(bytes: &Lent<u8>) -> u32 {
+    unsafe { c::irumbolai_crc32c(bytes.pointer(), bytes.length()) }
+}
+
+/// The CRC-32C of bytes where they lie.
+pub fn crc32c_at(bytes: &[u8]) -> u32 {
+    unsafe { c::irumbolai_crc32c(bytes.as_ptr(), bytes.len()) }
 }
 
 pub fn join(a: u16, b: u16, length_of_b: u32) -> u16 {
@@ -206,6 +217,10 @@ pub fn scrub(array: &Array, stripe: u64, bytes: &Lent<u8>) -> Verdict {
 
 pub fn quick_scrub(guards: &Lent<u16>) -> Quick {
     unsafe { c::irumbolai_quick_scrub(guards.pointer(), guards.length()) }
+}
+
+pub fn quick_scrub_wide(guards: &Lent<u32>) -> Quick {
+    unsafe { c::irumbolai_quick_scrub_wide(guards.pointer(), guards.length()) }
 }
 
 pub fn start(array: &Array, stripe: u64, work: &mut Lent<u8>) -> Taken {

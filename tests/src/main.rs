@@ -19,6 +19,7 @@ const PARTS: &[(&str, Comparison)] = &[
     ("figures", figures::check),
     ("guard", compare::guard::compare),
     ("checksum", compare::checksum::compare),
+    ("crc32c", compare::crc32c::compare),
     ("join", compare::join::compare),
     ("layout", compare::layout::compare),
     ("tag", compare::tag::compare),

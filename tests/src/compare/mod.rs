@@ -2,6 +2,7 @@
 
 pub mod cases;
 pub mod checksum;
+pub mod crc32c;
 pub mod faults;
 pub mod guard;
 pub mod images;

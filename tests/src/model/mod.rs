@@ -1,6 +1,7 @@
 //! The rules, written down a second time: a library of its own, so that programs can use it without the proved one.
 
 pub mod checksum;
+pub mod crc32c;
 pub mod guard;
 pub mod join;
 pub mod layout;
