@@ -6,6 +6,7 @@ mod places;
 mod scans;
 mod stripes;
 mod text;
+mod wide;
 
 fn main() {
     guards::published();
@@ -20,4 +21,6 @@ fn main() {
     checksums::stripe();
     stripes::sealed(b"\nsealed by checksum, tag of   is\n", 2);
     stripes::unfit();
+    wide::published();
+    wide::scrubs();
 }
