@@ -89,6 +89,7 @@ calls! {
     guard, irumbolai_guard, "v3_irumbolai_guard", (bytes: *const u8, length: usize) -> u16;
     guards, irumbolai_guards, "v3_irumbolai_guards", (bytes: *const u8, length: usize, stride: usize) -> Guards;
     checksum, irumbolai_checksum, "v3_irumbolai_checksum", (bytes: *const u8, length: usize) -> Sum;
+    crc32c, irumbolai_crc32c, "v3_irumbolai_crc32c", (bytes: *const u8, length: usize) -> u32;
     join, irumbolai_join, "v3_irumbolai_join", (a: u16, b: u16, length_of_b: u32) -> u16;
     seal, irumbolai_seal, "v3_irumbolai_seal", (members: usize, stripes: u64, volume: u8, method: u8, stripe: u64, data: *const u8, data_length: usize, bytes: *mut u8, length: usize) -> u32;
     rebuild, irumbolai_rebuild, "v3_irumbolai_rebuild", (members: usize, stripes: u64, volume: u8, method: u8, stripe: u64, member: usize, bytes: *mut u8, length: usize) -> u32;
@@ -122,6 +123,10 @@ pub fn checksum<A: Archive>(bytes: &[u8]) -> u16 {
     let sum = unsafe { (A::CALLS.checksum)(bytes.as_ptr(), bytes.len()) };
     assert_eq!(sum.refusal, 0, "the call is not refused");
     sum.guard as u16
+}
+
+pub fn crc32c<A: Archive>(bytes: &[u8]) -> u32 {
+    unsafe { (A::CALLS.crc32c)(bytes.as_ptr(), bytes.len()) }
 }
 
 pub fn join<A: Archive>(a: u16, b: u16, length_of_b: u32) -> u16 {

@@ -1,5 +1,5 @@
 //! The same jobs in ordinary Rust, over two ways to make guards of method 1: a loop over bits, and ISA-L, the latter with two ways to combine; and over
-//! a loop for those of method 2.
+//! a loop for those of method 2. And CRC-32C, by a loop over bits and by ISA-L.
 
 use crate::stripes::{
     BLOCK, CHECKSUM, CRC, DATA, Fits, MEMBERS, VOLUME, Verdict, blocks, parity_member,
@@ -168,9 +168,40 @@ mod v3 {
     }
 }
 
+/// What anyone would write.
+#[inline(never)]
+pub fn crc32c(bytes: &[u8]) -> u32 {
+    let mut register = u32::MAX;
+    for byte in bytes {
+        register ^= u32::from(*byte);
+        for _ in 0..8 {
+            register = if register & 1 != 0 {
+                register >> 1 ^ 0x82F6_3B78
+            } else {
+                register >> 1
+            };
+        }
+    }
+    !register
+}
+
 pub mod isal {
     /// None where ISA-L is not installed; then nothing here is called.
     pub const VERSION: Option<&str> = option_env!("BENCH_ISAL");
+
+    #[cfg(isal)]
+    pub fn crc32c(bytes: &[u8]) -> u32 {
+        unsafe extern "C" {
+            fn crc32_iscsi(bytes: *const u8, length: i32, register: u32) -> u32;
+        }
+        // SAFETY: the pointer comes with the length of its buffer, which is short and only read.
+        !unsafe { crc32_iscsi(bytes.as_ptr(), bytes.len() as i32, u32::MAX) }
+    }
+
+    #[cfg(not(isal))]
+    pub fn crc32c(_: &[u8]) -> u32 {
+        panic!("ISA-L is not installed")
+    }
 
     #[cfg(isal)]
     pub fn guard(register: u16, bytes: &[u8]) -> u16 {

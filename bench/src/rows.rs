@@ -1,8 +1,8 @@
 //! What is measured: each row is one job, done by the library and by its peers. A new row is a new entry of ROWS.
 
 use crate::library::{self, Archive};
-use crate::peers::{self, Isal, IsalV3, Ordinary, Summed};
-use crate::stripes::{BLOCK, CHECKSUM, CRC, DATA, MEMBERS, STRIPE, blocks};
+use crate::peers::{self, Isal, IsalV3, Ordinary, Summed, isal};
+use crate::stripes::{BLOCK, CHECKSUM, CRC, DATA, LARGE, MEMBERS, STRIPE, blocks};
 use std::hint::black_box;
 
 /// Where a job writes beside the stripe.
@@ -227,6 +227,38 @@ pub const ROWS: &[Row] = &[
             |_, bytes, room| copy_stripe(bytes, room),
         ]),
     },
+    Row {
+        name: "CRC-32C of one block alone",
+        unit: "block",
+        units: MEMBERS,
+        bytes: LARGE,
+        sources: &[Source::Cache],
+        method: CRC,
+        jobs: all([
+            |_, bytes, _| alone_large(library::crc32c::<library::Plain>, bytes),
+            |_, bytes, _| alone_large(library::crc32c::<library::V3>, bytes),
+            |_, bytes, _| alone_large(peers::crc32c, bytes),
+            |_, bytes, _| alone_large(isal::crc32c, bytes),
+            |_, bytes, _| alone_large(isal::crc32c, bytes),
+            |_, bytes, room| copy_one_large(bytes, room),
+        ]),
+    },
+    Row {
+        name: "CRC-32C of many blocks",
+        unit: "block",
+        units: STRIPE / LARGE,
+        bytes: LARGE,
+        sources: &[Source::Cache, Source::Memory],
+        method: CRC,
+        jobs: all([
+            |_, bytes, _| guards_large(library::crc32c::<library::Plain>, bytes),
+            |_, bytes, _| guards_large(library::crc32c::<library::V3>, bytes),
+            |_, bytes, _| guards_large(peers::crc32c, bytes),
+            |_, bytes, _| guards_large(isal::crc32c, bytes),
+            |_, bytes, _| guards_large(isal::crc32c, bytes),
+            |_, bytes, room| copy_large(bytes, room),
+        ]),
+    },
 ];
 
 fn rebuilt<A: Archive>(method: u8, stripe: u64, bytes: &mut [u8]) -> u64 {
@@ -235,13 +267,21 @@ fn rebuilt<A: Archive>(method: u8, stripe: u64, bytes: &mut [u8]) -> u64 {
 
 /// Guards of the first block, each begun when the one before is known: where it starts depends on it.
 fn alone(guard: impl Fn(&[u8]) -> u16, bytes: &[u8]) -> u64 {
+    one_by_one(|at| u64::from(guard(&bytes[at..at + DATA])))
+}
+
+fn alone_large(guard: impl Fn(&[u8]) -> u32, bytes: &[u8]) -> u64 {
+    one_by_one(|at| u64::from(guard(&bytes[at..at + LARGE])))
+}
+
+#[inline(always)]
+fn one_by_one(guard: impl Fn(usize) -> u64) -> u64 {
     let nothing = black_box(0);
     let mut last = 0;
     for _ in 0..MEMBERS {
-        let at = usize::from(last) & nothing;
-        last = guard(&bytes[at..at + DATA]);
+        last = guard(last as usize & nothing);
     }
-    u64::from(last)
+    last
 }
 
 /// The guards of all blocks, none of which waits for another.
@@ -249,11 +289,15 @@ pub fn guards(guard: impl Fn(&[u8]) -> u16, bytes: &[u8]) -> u64 {
     together(blocks(bytes).map(|block| guard(&block[..DATA])))
 }
 
+fn guards_large(guard: impl Fn(&[u8]) -> u32, bytes: &[u8]) -> u64 {
+    together(bytes.chunks_exact(LARGE).map(guard))
+}
+
 /// Guards as one number.
-fn together(guards: impl IntoIterator<Item = u16>) -> u64 {
+fn together<G: Into<u64>>(guards: impl IntoIterator<Item = G>) -> u64 {
     guards
         .into_iter()
-        .fold(0, |all, guard| all.rotate_left(5) ^ u64::from(guard))
+        .fold(0, |all, guard| all.rotate_left(5) ^ guard.into())
 }
 
 fn copy(from: &[u8], to: &mut [u8]) {
@@ -271,6 +315,23 @@ fn copy_one(bytes: &[u8], room: &mut Room) -> u64 {
 fn copy_blocks(bytes: &[u8], room: &mut Room) -> u64 {
     for (from, to) in blocks(bytes).zip(room.copy.chunks_exact_mut(BLOCK)) {
         copy(&from[..DATA], &mut to[..DATA]);
+    }
+    0
+}
+
+fn copy_one_large(bytes: &[u8], room: &mut Room) -> u64 {
+    for _ in 0..MEMBERS {
+        copy(&bytes[..LARGE], &mut room.copy[..LARGE]);
+    }
+    0
+}
+
+fn copy_large(bytes: &[u8], room: &mut Room) -> u64 {
+    for (from, to) in bytes
+        .chunks_exact(LARGE)
+        .zip(room.copy.chunks_exact_mut(LARGE))
+    {
+        copy(from, to);
     }
     0
 }

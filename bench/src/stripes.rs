@@ -7,6 +7,8 @@ pub const DATA: usize = 512;
 pub const BLOCK: usize = 520;
 pub const MEMBERS: usize = 16;
 pub const STRIPE: usize = MEMBERS * BLOCK;
+/// The bytes of a block whose guard is CRC-32C. Where a stripe lies there is room for two, whatever their bytes.
+pub const LARGE: usize = 4_096;
 pub const STRIPES: u64 = 268_435_456;
 pub const VOLUME: u8 = 7;
 
