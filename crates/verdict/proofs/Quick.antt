@@ -1,11 +1,11 @@
 -- The quick scrub: the loop that combines the guards, and the answer from their number and their combination. Assumes nothing.
-use mathlib.Core.Path.{_≡_, refl, sym}
+use mathlib.Core.Path.{_≡_, refl, sym, ap}
 use mathlib.Core.Bool.{Bool, true, false, not, cond, _&&_}
 use mathlib.Core.List.{List, [], _∷_}
 use mathlib.Core.Logic.{_≢_}
 use Prim.Native.Nat.{ℕ, suc, _+_, _≤_, _<_}
 use native.Mathlib.Numerals.{add-one}
-use borrow.Author.Tests.{eq-eqb, ne-eqb, lt-leb}
+use borrow.Author.Tests.{eq-eqb, ne-eqb, eqb-true, lt-leb}
 use lib.Bits.{bitXor, xor-zero-r}
 use lib.Dec.{leb, eqb}
 use lib.ListN.{length, getD, drop, drop-of-length-le}
@@ -80,3 +80,12 @@ module _ (guards : List ℕ) where
   pub quick-differs : quickRefusal (length guards) ≡ 0 → combinedGuards guards ≢ 0 → quickNumbers guards ≡ 1 ∷ 0 ∷ 1 ∷ combinedGuards guards ∷ []
   unfolding quickNumbers
   quick-differs = compared-differs 0 guards
+
+  -- their combination is told where they fit too, as it is zero there
+  pub quick-combination : quickNumbers guards ≡ answer (quickRefusal (length guards)) (cond (eqb (combinedGuards guards) 0) 0 1 ∷ combinedGuards guards ∷ [])
+  unfolding quickNumbers comparedWith
+  quick-combination = ap (answer (quickRefusal (length guards))) (by-test (eqb (combinedGuards guards) 0) refl)
+    where
+      by-test : (t : Bool) → eqb (combinedGuards guards) 0 ≡ t → cond t (0 ∷ 0 ∷ []) (1 ∷ combinedGuards guards ∷ []) ≡ cond t 0 1 ∷ combinedGuards guards ∷ []
+      by-test true e = ap (λ (c : ℕ). 0 ∷ c ∷ []) (sym (eqb-true (combinedGuards guards) 0 e))
+      by-test false e = refl
