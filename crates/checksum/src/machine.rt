@@ -8,7 +8,7 @@ use crate::row;
 use crate::take_word;
 
 // Where the sum starts.
-const FIRST: u16 = 0xFFFF;
+pub const FIRST: u16 = 0xFFFF;
 
 // A register before the first byte.
 pub fn start() -> Register
@@ -75,10 +75,13 @@ pub fn advance(at: usize, register: Register, bytes: &[u8]) -> Register
     from_even(take_word(sum, waiting, bytes[0]), 0, &bytes[1..])
 }
 
-// The checksum of a run of bytes; a last byte without a pair does not count.
+// The checksum of a run of bytes; a last byte without a pair does not count. Most often the run is one block.
 pub fn checksum(bytes: &[u8]) -> u16
     ensures { λ r. ⌜ r ≡ checksum (now (bytes .entry)) ⌝ }
 {
+    if bytes.len() == 512 {
+        return block(FIRST, bytes);
+    }
     let register = from_even(FIRST, 0, bytes);
     register.value
 }

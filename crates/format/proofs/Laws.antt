@@ -12,7 +12,7 @@ use lib.ListN.{length, take, drop, replicate, length-replicate}
 use borrow.Author.Tests.{eq-eqb, ne-eqb}
 use Rattle.xor.specs.Xors.{xors}
 use Rattle.xor.proofs.Lists.{xors-self}
-use Rattle.crc.specs.Crc.{bitsOf, Bytes, Within}
+use Rattle.crc.specs.Crc.{Bytes, Within}
 use Rattle.crc.specs.Guard.{guard as crcGuard}
 use Rattle.crc.specs.Blocks.{guardsOf as crcGuards}
 use Rattle.crc.proofs.Noticed.{noticed}
@@ -75,6 +75,10 @@ of-carrying P two method = go (eqb method 2)
     go true e = two
     go false e = let o : _≡_ {A = ℕ} 0 1 = cc in absurd (omega arith)
 
+-- there the data are one piece of 512 bytes
+pub carried-piece : (method : ℕ) → formatOf method .carries ≡ true → formatOf method .dataLength ≡ 512
+carried-piece = of-carrying (λ F. F .dataLength ≡ 512) refl
+
 -- ---- what both have alike: their lengths, and guards of two bytes
 
 pub same-data : (method other : ℕ) → formatOf method .dataLength ≡ formatOf other .dataLength
@@ -115,8 +119,13 @@ unfolding spare
 spare-t10 n = ap (λ (b : ℕ). b * (n % 2)) blank-t10 ∙ zero-mul (n % 2)
 
 -- a block of zeros has guard 0, so guards combine as they are
-pub blank-none : (method : ℕ) → formatOf method .carries ≡ false → blank (formatOf method) ≡ 0
-blank-none = of-plain (λ F. blank F ≡ 0) blank-t10
+pub blank-first : blank (formatOf 1) ≡ 0
+unfolding formatOf
+blank-first = blank-t10
+
+pub settled-first : (n : ℕ) → settled (formatOf 1) n ≡ 0
+unfolding formatOf settled
+settled-first n = spare-t10 n
 
 combines-t10 : Combines t10
 combines-t10 a b ha hb =
@@ -127,9 +136,9 @@ combines-t10 a b ha hb =
 pub combines : (method : ℕ) → formatOf method .carries ≡ false → Combines (formatOf method)
 combines = of-plain Combines combines-t10
 
--- what lies within sixteen successive bits is noticed
+-- what lies within as many successive bits as a guard reaches over is noticed
 abbrev pub Notices : Format → Type 0
-Notices F = (a b : List ℕ) → Bytes a → Bytes b → length a ≡ length b → Within 16 (bitsOf a) (bitsOf b) → a ≢ b → guard F a ≢ guard F b
+Notices F = (a b : List ℕ) → Bytes a → Bytes b → length a ≡ length b → Within (F .reach) (F .bits a) (F .bits b) → a ≢ b → guard F a ≢ guard F b
 
 pub notices : (method : ℕ) → formatOf method .carries ≡ false → Notices (formatOf method)
 notices = of-plain Notices (λ a b ha hb long near ne e. noticed a b ha hb long near ne (sym (guard-t10 a) ∙ e ∙ guard-t10 b))

@@ -29,6 +29,9 @@ pub record Format : Type 0 where
   pub start : ℕ
   pub advance : ℕ → ℕ → List ℕ → ℕ
   pub guardOf : ℕ → ℕ
+  -- the bits of a run in the order in which the guard takes them, and how many successive ones may hold a change that it always notices
+  pub bits : List ℕ → List ℕ
+  pub reach : ℕ
   -- whether the parity's tag holds what the data members' guards combine to; else it holds the guard of its own data
   pub carries : Bool
   -- whether a byte may wait for its pair where so many bytes of a block were taken
@@ -43,7 +46,8 @@ pub record Format : Type 0 where
   pub block-parts : blockLength ≡ dataLength + tagLength
   pub tag-quarters : tagLength ≡ 4 * quarter
   pub data-most : dataLength ≤ mostData
-  pub data-rows : dataLength % 128 ≡ 0
+  -- data are whole pieces of 512 bytes
+  pub data-pieces : dataLength % 512 ≡ 0
   pub quarter-least : 2 ≤ quarter
   pub quarter-most : 64 * quarter ≤ mostTags
   pub scaled : 65536 * scale ≡ 256 ^ quarter

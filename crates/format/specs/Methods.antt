@@ -5,6 +5,7 @@ use Prim.Native.Nat.{ℕ, _%_, _^_}
 use lib.ListN.{take}
 use native.Mathlib.Omega.{arith}
 use lib.Dec.{eqb, lit<}
+use Rattle.crc.specs.Crc.{bitsOf}
 use Rattle.crc.specs.Guard.{run}
 use Rattle.crc.proofs.Joined.{run-nil, run-joined}
 use Rattle.crc.proofs.Noticed.{run-lt}
@@ -25,6 +26,8 @@ t10 =
       start = 0;
       advance = λ at. run;
       guardOf = λ r. r;
+      bits = bitsOf;
+      reach = 16;
       carries = false;
       waits = λ at. false;
       advance-nil = λ at. run-nil;
@@ -37,7 +40,7 @@ t10 =
       block-parts = refl;
       tag-quarters = refl;
       data-most = omega arith;
-      data-rows = refl;
+      data-pieces = refl;
       quarter-least = omega arith;
       quarter-most = omega arith;
       scaled = refl;
@@ -56,6 +59,8 @@ checksummed =
       start = first;
       advance = packedAdvance;
       guardOf = λ r. r % 65536;
+      bits = bitsOf;
+      reach = 0;
       carries = true;
       waits = mayWait 512;
       advance-nil = packed-nil;
@@ -68,7 +73,7 @@ checksummed =
       block-parts = refl;
       tag-quarters = refl;
       data-most = omega arith;
-      data-rows = refl;
+      data-pieces = refl;
       quarter-least = omega arith;
       quarter-most = omega arith;
       scaled = refl;

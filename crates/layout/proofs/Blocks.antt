@@ -1,10 +1,12 @@
 -- Block numbers and pairs of a stripe and a data index: division by d and its way back, and the bounds. Assumes nothing.
 use mathlib.Core.Path.{_≡_}
-use Prim.Native.Nat.{ℕ, _^_, _≤_, _<_}
+use mathlib.Core.Bool.{Bool, true, false, cond}
+use Prim.Native.Nat.{ℕ, _-_, _^_, _≤_, _<_}
+use lib.Dec.{ltb}
 use native.Mathlib.Nat.{mod-lt, mod-eq-of-lt, div-add-mod', div-lt-iff-lt-mul, mul-add-div-right, mul-add-mod-self-right, div-eq-of-lt, mul-le-mul-right, mul-le-mul, eq-of-mul-eq-mul-right, add-zero}
 use native.Mathlib.Omega.{arith}
 use Rattle.layout.specs.Arrays.{dataMembers, blockCount}
-use Rattle.layout.specs.Places.{lowestBlock, blockAt, stripeOf, indexOf}
+use Rattle.layout.specs.Places.{lowestBlock, blockAt, stripeOf, indexOf, indexBeside}
 use Rattle.layout.specs.Ranges.{Sound, SoundStripe, SoundBlock}
 use Rattle.layout.specs.declared.Array.{Array}
 
@@ -49,3 +51,16 @@ module _ (a : Array) where
   -- every block number fits a reference tag
   pub block-small : (block : ℕ) → SoundBlock a block → block < 2 ^ 32
   block-small block h = omega (arith, block-count-small (h .array))
+
+  -- and so does nearly what one would be, were the parity on any member
+  index-most : (parity member : ℕ) → indexBeside parity member ≤ member
+  index-most parity member = go (ltb member parity)
+    where
+      go : (t : Bool) → cond t member (member - 1) ≤ member
+      go true = omega arith
+      go false = omega arith
+
+  pub beside-small : (stripe parity member : ℕ) → SoundStripe a stripe → member < a .members → blockAt a stripe (indexBeside parity member) < 2 ^ 33
+  unfolding blockAt
+  beside-small stripe parity member h inside =
+      omega (arith, block-small (lowestBlock a stripe) (lowest-sound stripe h), index-most parity member, h .array .many)

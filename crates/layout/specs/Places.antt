@@ -32,12 +32,16 @@ stripeOf a block = block / dataMembers a
 unfoldable pub indexOf : Array → ℕ → ℕ
 indexOf a block = block % dataMembers a
 
--- the member at a data index: the indices step over the parity member; and the index at a member that is not the parity's
+-- the member at a data index: the indices step over the parity member; and the index at a member that is not the parity's,
 unfoldable pub memberAt : Array → ℕ → ℕ → ℕ
 memberAt a stripe index = cond (ltb index (parityMember a stripe)) index (index + 1)
 
+-- told by the member that holds the parity
+abbrev pub indexBeside : ℕ → ℕ → ℕ
+indexBeside parity member = cond (ltb member parity) member (member - 1)
+
 unfoldable pub indexAt : Array → ℕ → ℕ → ℕ
-indexAt a stripe member = cond (ltb member (parityMember a stripe)) member (member - 1)
+indexAt a stripe member = indexBeside (parityMember a stripe) member
 
 -- the member of a block
 abbrev pub memberOf : Array → ℕ → ℕ
@@ -76,6 +80,12 @@ blockNamed a stripe member = cond (isParity a stripe member) (lowestBlock a stri
 unfoldable pub ownerNumbers : Array → ℕ → ℕ → List ℕ
 ownerNumbers a stripe member =
     answer (ownerRefusal a stripe member) (cond (isParity a stripe member) 1 0 ∷ blockNamed a stripe member ∷ [])
+
+-- the same, told by a member that is said to hold the parity
+unfoldable pub ownerBesideNumbers : Array → ℕ → ℕ → ℕ → List ℕ
+ownerBesideNumbers a stripe parity member =
+    answer (ownerRefusal a stripe member)
+    (cond (eqb member parity) 1 0 ∷ cond (eqb member parity) (lowestBlock a stripe) (blockAt a stripe (indexBeside parity member)) ∷ [])
 
 -- ---- a place holds one block of the array, and no second
 

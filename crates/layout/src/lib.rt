@@ -5,7 +5,18 @@ ghost use mathlib.Core.Bool.{not};
 ghost use Prim.Native.Nat.{_-_, _<_, _≤_};
 ghost use Rattle.layout.specs.Answers.{refuse, orPast};
 ghost use Rattle.layout.specs.Arrays.{arrayOf, noArray, within, arrayRefusal, dataMembers, stripeRefusal, blockRefusal};
-ghost use Rattle.layout.specs.Places.{parityMember, memberAt, indexAt, referenceOf, placedNumbers, placeNumbers, ownedNumbers, ownerNumbers, ownerRefusal};
+ghost use Rattle.layout.specs.Places.{
+  parityMember,
+  memberAt,
+  indexBeside,
+  referenceOf,
+  placedNumbers,
+  placeNumbers,
+  ownedNumbers,
+  ownerNumbers,
+  ownerBesideNumbers,
+  ownerRefusal,
+};
 
 // The array's numbers: members n, stripes S, the volume that stands in every application tag, and the guard method.
 pub struct Array {
@@ -157,11 +168,11 @@ fn one_less(x: usize) -> usize
     if x == 0 { 0 } else { x - 1 }
 }
 
-// The data index at a member that is not the parity's.
-pub fn index_at(array: Array, stripe: u64, member: usize) -> usize
-    ensures { λ r. ⌜ r ≡ indexAt array stripe member ⌝ }
+// The data index at a member, where another holds the parity.
+pub fn index_beside(parity: usize, member: usize) -> usize
+    ensures { λ r. ⌜ r ≡ indexBeside parity member ⌝ }
 {
-    if member < parity_member(array, stripe) {
+    if member < parity {
         member
     } else {
         one_less(member)
@@ -183,21 +194,28 @@ pub fn place(array: Array, block: u64) -> Placed
     Placed::At { stripe, member }
 }
 
-// What lies at a place.
-pub fn owner(array: Array, stripe: u64, member: usize) -> Owned
-    ensures { λ r. ⌜ ownedNumbers r ≡ ownerNumbers array stripe member ⌝ }
+// What lies at a place, where that member holds the stripe's parity. To find it takes a division, so it is found once a stripe.
+pub fn owner_beside(array: Array, stripe: u64, parity: usize, member: usize) -> Owned
+    ensures { λ r. ⌜ ownedNumbers r ≡ ownerBesideNumbers array stripe parity member ⌝ }
 {
     let refusal = owner_refusal(array, stripe, member);
     if refusal != 0 {
         return Owned::Refused(refusal);
     }
     let lowest = stripe * data_members(array);
-    if member == parity_member(array, stripe) {
+    if member == parity {
         return Owned::Parity { lowest };
     }
-    let index = index_at(array, stripe, member);
+    let index = index_beside(parity, member);
     let block = lowest + index as u64;
     Owned::Data { block }
+}
+
+// What lies at a place.
+pub fn owner(array: Array, stripe: u64, member: usize) -> Owned
+    ensures { λ r. ⌜ ownedNumbers r ≡ ownerNumbers array stripe member ⌝ }
+{
+    owner_beside(array, stripe, parity_member(array, stripe), member)
 }
 
 // The reference tag of a block number.

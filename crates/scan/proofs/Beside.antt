@@ -10,20 +10,20 @@ use Prim.Native.Nat.{ℕ, zero, suc, _<_}
 use native.Mathlib.Nat.{le-antisymm}
 use native.Mathlib.Decide.{ℕ-discrete, decLt}
 use native.Mathlib.Omega.{arith}
+use lib.Bits.{bitXor}
 use lib.Dec.{leb, eqb, lit<}
 use lib.ListN.{length, getD, set, replicate}
 use lib.Seq.{getD-set-same, getD-set-other, set-out}
-use Rattle.crc.specs.Crc.{bitsOf, Bytes, Within}
-use Rattle.format.specs.Formats.{guard, mostTags}
+use Rattle.crc.specs.Crc.{Bytes, Within}
+use Rattle.format.specs.Formats.{guard, blank, spare, mostTags}
 use Rattle.layout.specs.Answers.{answer}
 use Rattle.layout.specs.Ranges.{Sound}
 use Rattle.layout.specs.declared.Array.{Array}
 use Rattle.layout.proofs.Answers.{refuse-none}
 use Rattle.tag.specs.Blocks.{formatAt}
 use Rattle.tag.proofs.Numbers.{bytes-joined}
-use Rattle.verdict.specs.Verdicts.{quickNumbers}
 use Rattle.stripe.specs.Tables.{all}
-use Rattle.stripe.specs.Verdicts.{verdict, scrubBlocks}
+use Rattle.stripe.specs.Verdicts.{verdict, scrubBlocks, quickOf}
 use Rattle.stripe.specs.Stripes.{storedGuard, Whole}
 use Rattle.stripe.proofs.Quick.{fits-where-zero, differs-within}
 use Rattle.scan.specs.History.{Call, piece, finish, begun, pieceNumber, finishNumber, answerTo, kept, answers}
@@ -78,13 +78,14 @@ module _ (a : Array) (stripe : ℕ) where
       (none-bad : getD (scrubBlocks a stripe (historyOf a stripe calls)) 0 0 ≢ 1)
       (all-checked : getD (scrubBlocks a stripe (historyOf a stripe calls)) 0 0 ≢ 3) where
     pub quick-fits-beside : together a (historyOf a stripe calls) ≡ replicate (formatAt a .dataLength) 0
-        → quickNumbers (map (storedGuard (formatAt a)) (historyOf a stripe calls)) ≡ 1 ∷ 0 ∷ 0 ∷ 0 ∷ []
+        → quickOf a (map (storedGuard (formatAt a)) (historyOf a stripe calls)) ≡ 1 ∷ 0 ∷ 0 ∷ 0 ∷ []
     quick-fits-beside = fits-where-zero a stripe (historyOf a stripe calls) sound (whole-history sound calls bytes accepted) plain none-bad all-checked
 
     pub quick-differs-beside : together a (historyOf a stripe calls) ≢ replicate (formatAt a .dataLength) 0
-        → Within 16 (bitsOf (together a (historyOf a stripe calls))) (bitsOf (replicate (formatAt a .dataLength) 0))
-        → (guard (formatAt a) (together a (historyOf a stripe calls)) ≢ 0)
-        × (quickNumbers (map (storedGuard (formatAt a)) (historyOf a stripe calls)) ≡ 1 ∷ 0 ∷ 1 ∷ guard (formatAt a) (together a (historyOf a stripe calls)) ∷ [])
+        → Within (formatAt a .reach) (formatAt a .bits (together a (historyOf a stripe calls))) (formatAt a .bits (replicate (formatAt a .dataLength) 0))
+        → (guard (formatAt a) (together a (historyOf a stripe calls)) ≢ blank (formatAt a))
+        × (quickOf a (map (storedGuard (formatAt a)) (historyOf a stripe calls))
+        ≡ 1 ∷ 0 ∷ 1 ∷ bitXor (guard (formatAt a) (together a (historyOf a stripe calls))) (spare (formatAt a) (suc (a .members))) ∷ [])
     quick-differs-beside = differs-within a stripe (historyOf a stripe calls) sound (whole-history sound calls bytes accepted) plain none-bad all-checked
 
   -- ---- at a finish among the calls, from the answers that they got

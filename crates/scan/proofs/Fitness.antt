@@ -7,9 +7,9 @@ use mathlib.Core.Logic.{_≢_}
 use Prim.Native.Nat.{ℕ, zero, suc, _+_, _≤_, _<_, zero-le, suc-le-suc}
 use native.Mathlib.Nat.{le-of-suc-le-suc, not-suc-le-zero, zero-lt-suc}
 use native.Mathlib.Numerals.{add-one}
-use native.Mathlib.Decide.{decLt}
+use native.Mathlib.Decide.{ℕ-discrete, decLt}
 use native.Mathlib.Omega.{arith}
-use borrow.Author.Tests.{leb-true, le-leb, eqb-true, ne-eqb}
+use borrow.Author.Tests.{leb-true, le-leb, eqb-true, eq-eqb, ne-eqb}
 use lib.Dec.{leb, eqb}
 use lib.ListN.{length, getD, take, drop, replicate, length-take, drop-of-length-le, List·getD-eq-default}
 use lib.Seq.{drop-cons, getD-take}
@@ -158,16 +158,11 @@ module _ (F : Format) (n : ℕ) (at waiting : List ℕ) where
           (λ i k. joined (leb (getD at i 0) (F .blockLength)) (alone i) (all-first (λ p. leb p (F .blockLength)) at n (h .0) i k (omega arith)) (table-flag n alone (h .1) i k))
 
   -- at once, where none of all sixteen is too far and none waits
-  pub members-at-once : ((i : ℕ) → i < n → getD at i 0 ≤ F .blockLength) → ((i : ℕ) → i < n → getD waiting i 0 ≡ 0) → membersFit F n at waiting ≡ true
+  members-at-once : ((i : ℕ) → i < n → getD at i 0 ≤ F .blockLength) → ((i : ℕ) → i < n → getD waiting i 0 ≡ 0) → membersFit F n at waiting ≡ true
   members-at-once near none =
       flag-table n stands (λ i h. rw (le-leb (getD at i 0) (F .blockLength) (near i h), none i h))
 
 -- ---- a fit state
-
--- it is fit by those of its fields that tell
-pub fit-alike : (s t : Scan) → s .array ≡ t .array → s .stripe ≡ t .stripe → s .at ≡ t .at → s .waiting ≡ t .waiting → fit t ≡ fit s
-unfolding fit
-fit-alike s t e f g h = rw (e, f, g, h)
 
 module _ (s : Scan) where
   pub numbers-unfit : stripeRefusal (s .array) (s .stripe) ≢ 0 → fit s ≡ false
@@ -182,6 +177,19 @@ module _ (s : Scan) where
   pub numbers-fit : stripeRefusal (s .array) (s .stripe) ≡ 0 → s .array .members ≤ length (s .at)
       → membersFit (formatAt (s .array)) (s .array .members) (s .at) (s .waiting) ≡ fit s
   numbers-fit e inside = members-by-two (formatAt (s .array)) (s .array .members) (s .at) (s .waiting) inside ∙ sym (numbers-two e)
+
+  -- told at once, where of all sixteen none is too far and none waits
+  pub fit-told : ((i : ℕ) → i < 16 → getD (s .at) i 0 ≤ formatAt (s .array) .blockLength) → ((i : ℕ) → i < 16 → getD (s .waiting) i 0 ≡ 0) → length (s .at) ≡ 16
+      → eqb (stripeRefusal (s .array) (s .stripe)) 0 ≡ fit s
+  fit-told near none long = go (ℕ-discrete (stripeRefusal (s .array) (s .stripe)) 0)
+    where
+      go : Dec (stripeRefusal (s .array) (s .stripe) ≡ 0) → eqb (stripeRefusal (s .array) (s .stripe)) 0 ≡ fit s
+      go (yes e) =
+          let few = stripe-sound (s .array) (s .stripe) e .array .many in
+          eq-eqb (stripeRefusal (s .array) (s .stripe)) 0 e
+          ∙ sym (members-at-once (formatAt (s .array)) (s .array .members) (s .at) (s .waiting) (λ i h. near i (omega arith)) (λ i h. none i (omega arith)))
+          ∙ numbers-fit e (omega arith)
+      go (no h) = ne-eqb (stripeRefusal (s .array) (s .stripe)) 0 h ∙ sym (numbers-unfit h)
 
   pub fit-state : fit s ≡ true → FitState s
   unfolding fit

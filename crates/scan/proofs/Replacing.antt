@@ -1,8 +1,8 @@
--- Sixteen numbers of a state, passed one by one: the furthest of them, and all of them with another at one place. Assumes nothing.
-use mathlib.Core.Path.{_≡_, sym, ap, _∙_}
-use mathlib.Core.Bool.{cond}
+-- Sixteen numbers of a state, passed one by one: what holds of all, and all of them with another at one place. Assumes nothing.
+use mathlib.Core.Path.{_≡_, refl, sym, ap, _∙_}
+use mathlib.Core.Bool.{Bool, true, false, cond, _&&_}
 use mathlib.Core.List.{List, [], _∷_}
-use Prim.Native.Nat.{ℕ, zero, suc, _+_, _≤_, _<_, max}
+use Prim.Native.Nat.{ℕ, zero, suc, _+_, _<_}
 use native.Mathlib.Nat.{le-of-suc-le-suc, not-suc-le-zero}
 use native.Mathlib.Decide.{ℕ-discrete, decLt}
 use native.Mathlib.Omega.{arith}
@@ -11,16 +11,23 @@ use lib.Dec.{eqb}
 use lib.ListN.{length, getD, set}
 use lib.Seq.{getD-set-same, getD-set-other}
 
--- none of those passed is past the furthest, with one more passed
-pub furthest-next : (l : List ℕ) (i far next : ℕ) → next ≡ max far (getD l i 0) → ((k : ℕ) → k < i → getD l k 0 ≤ far) → (k : ℕ) → k < i + 1 → getD l k 0 ≤ next
-furthest-next l i far next e h k below = go (decLt k i)
+-- what holds of all passed, with one more passed
+pub still-all : (P : ℕ → Bool) (l : List ℕ) (i : ℕ) (flag next : Bool) → next ≡ (flag && P (getD l i 0))
+    → (flag ≡ true → (k : ℕ) → k < i → P (getD l k 0) ≡ true) → next ≡ true → (k : ℕ) → k < i + 1 → P (getD l k 0) ≡ true
+still-all P l i flag next e h yes-next k below = go (decLt k i)
   where
-    go : Dec (k < i) → getD l k 0 ≤ next
-    go (yes q) = omega (arith, e, h k q)
+    both : (s t : Bool) → (s && t) ≡ true → (s ≡ true) × (t ≡ true)
+    both true t q = (refl, q)
+    both false t q = (q, (cc))
+
+    two : (flag ≡ true) × (P (getD l i 0) ≡ true)
+    two = both flag (P (getD l i 0)) (sym e ∙ yes-next)
+
+    go : Dec (k < i) → P (getD l k 0) ≡ true
+    go (yes q) = h (two .0) k q
     go (no q) =
         let last : k ≡ i = omega arith in
-        let same : getD l k 0 ≡ getD l i 0 = ap (λ (j : ℕ). getD l j 0) last in
-        omega (arith, e, same)
+        ap (λ (j : ℕ). P (getD l j 0)) last ∙ two .1
 
 -- what is chosen at a place is what lies there once the value is set
 pub chosen-there : (l : List ℕ) (m v i : ℕ) → i < length l → cond (eqb i m) v (getD l i 0) ≡ getD (set l m v) i 0

@@ -4,16 +4,16 @@ use mathlib.Core.Path.{_≡_}
 use mathlib.Core.Bool.{false}
 use mathlib.Core.Logic.{_≢_}
 use mathlib.Core.List.{List, [], _∷_, _++_, map, foldl}
-use Prim.Native.Nat.{ℕ}
+use Prim.Native.Nat.{ℕ, suc}
+use lib.Bits.{bitXor}
 use lib.ListN.{length, getD, replicate}
 use Rattle.xor.specs.Xors.{combination}
-use Rattle.crc.specs.Crc.{bitsOf, Bytes, Within}
-use Rattle.format.specs.Formats.{guard}
+use Rattle.crc.specs.Crc.{Bytes, Within}
+use Rattle.format.specs.Formats.{guard, blank, spare}
 use Rattle.layout.specs.declared.Array.{Array}
 use Rattle.tag.specs.Blocks.{formatAt, dataOf}
-use Rattle.verdict.specs.Verdicts.{quickNumbers}
 use Rattle.stripe.specs.Stripes.{storedGuard}
-use Rattle.stripe.specs.Verdicts.{scrubBlocks}
+use Rattle.stripe.specs.Verdicts.{scrubBlocks, quickOf}
 use Rattle.scan.specs.History.{Call, piece, finish, begun, kept, answers}
 
 -- the history after calls: the bytes of each member that were taken
@@ -42,15 +42,17 @@ pub record FoundAllGood (calls before : List Call) (xs : List (List ℕ)) : Type
   pub not-bad : kind ≢ 1
   pub not-unchecked : kind ≢ 3
 
--- the three parts: every answer is the history's; and, where guards are those of the data (method 1), at every such finish the quick scrub of
--- the stored guards fits where parity is right, and differs, by the guard of the parity difference, where that lies within sixteen successive bits
+-- the three parts: every answer is the history's; and, where guards are those of the data, at every such finish the quick scrub of the stored
+-- guards fits where parity is right, and differs, by the guard of the parity difference, where that lies within as many successive bits as a
+-- guard reaches over (by method 1 sixteen, and what is told is that guard as it is, since a block of zeros has guard 0)
 pub record CutAnywhere (a : Array) (stripe : ℕ) (calls : List Call) (xs : List (List ℕ)) : Type 0 where
   pub answered : xs ≡ answers (formatAt a .blockLength) (a .members) (scrubBlocks a stripe) (begun (a .members)) calls
   pub quick-fits : formatAt a .carries ≡ false → ByteCalls calls → (before : List Call) → FoundAllGood calls before xs
       → together a (historyOf a stripe before) ≡ replicate (formatAt a .dataLength) 0
-      → quickNumbers (map (storedGuard (formatAt a)) (historyOf a stripe before)) ≡ 1 ∷ 0 ∷ 0 ∷ 0 ∷ []
+      → quickOf a (map (storedGuard (formatAt a)) (historyOf a stripe before)) ≡ 1 ∷ 0 ∷ 0 ∷ 0 ∷ []
   pub quick-differs : formatAt a .carries ≡ false → ByteCalls calls → (before : List Call) → FoundAllGood calls before xs
       → together a (historyOf a stripe before) ≢ replicate (formatAt a .dataLength) 0
-      → Within 16 (bitsOf (together a (historyOf a stripe before))) (bitsOf (replicate (formatAt a .dataLength) 0))
-      → (guard (formatAt a) (together a (historyOf a stripe before)) ≢ 0)
-      × (quickNumbers (map (storedGuard (formatAt a)) (historyOf a stripe before)) ≡ 1 ∷ 0 ∷ 1 ∷ guard (formatAt a) (together a (historyOf a stripe before)) ∷ [])
+      → Within (formatAt a .reach) (formatAt a .bits (together a (historyOf a stripe before))) (formatAt a .bits (replicate (formatAt a .dataLength) 0))
+      → (guard (formatAt a) (together a (historyOf a stripe before)) ≢ blank (formatAt a))
+      × (quickOf a (map (storedGuard (formatAt a)) (historyOf a stripe before))
+      ≡ 1 ∷ 0 ∷ 1 ∷ bitXor (guard (formatAt a) (together a (historyOf a stripe before))) (spare (formatAt a) (suc (a .members))) ∷ [])

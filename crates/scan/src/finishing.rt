@@ -5,7 +5,7 @@ ghost use lib.ListN.{length, take};
 ghost use Rattle.format.specs.Formats.{mostTags};
 ghost use Rattle.format.specs.Methods.{formatOf};
 ghost use Rattle.layout.specs.Arrays.{stripeRefusal};
-ghost use Rattle.layout.specs.Places.{ownerRefusal};
+ghost use Rattle.layout.specs.Places.{parityMember, ownerRefusal};
 ghost use Rattle.tag.specs.Tags.{found};
 ghost use Rattle.verdict.specs.Verdicts.{scrubbedNumbers, combinedGuards};
 ghost use Rattle.stripe.specs.Tables.{span};
@@ -42,9 +42,8 @@ fn finish_refusal(state: Scan, length: usize) -> u8
     let array = state.array;
     let members = array.members;
     let at = state.at;
-    let waiting = state.waiting;
     let method = array.method;
-    if !fit(array, state.stripe, at, waiting) {
+    if !fit(state) {
         return 4;
     }
     if length != format::data_length(method) {
@@ -56,21 +55,26 @@ fn finish_refusal(state: Scan, length: usize) -> u8
     0
 }
 
-// How a member with this register stands, by its tag bytes among those held.
-fn standing(array: Array, stripe: u64, member: usize, register: u32, tags: &[u8]) -> u8
+// How a member with this register stands, by its tag bytes among those held and the member that holds the stripe's parity.
+fn standing(
+    array: Array,
+    stripe: u64,
+    parity: usize,
+    member: usize,
+    register: u32,
+    tags: &[u8],
+) -> u8
     requires { ⌜ ownerRefusal array stripe member ≡ 0 ⌝ }
     requires { ⌜ length (now tags) ≡ mostTags ⌝ }
+    requires { ⌜ parity ≡ parityMember array stripe ⌝ }
     ensures { λ r. ⌜ r ≡ heldStanding array stripe member register (now (tags .entry)) ⌝ }
 {
     let method = array.method;
     let at = tag_at(method, member);
     let guard = format::guard_of(method, register);
     let found = tag::found(method, tags, at);
-    tag::standing(
-        method,
-        found,
-        tag::expected(array, stripe, member, found, guard),
-    )
+    let owned = layout::owner_beside(array, stripe, parity, member);
+    tag::standing(method, found, tag::expected_to(array, owned, found, guard))
 }
 
 // How the members stand, in member order from the front.
@@ -85,12 +89,14 @@ fn standings(state: Scan) -> [u8; 16]
     let tags = state.tag;
     let members = array.members;
     let method = array.method;
+    let parity = layout::parity_member(array, stripe);
     let mut standing = [0u8; 16];
     let mut member: usize = 0;
     while member < members {
         standing[member] = crate::finishing::standing(
             array,
             stripe,
+            parity,
             member,
             register_of(method, values[member], waiting[member]),
             &tags,

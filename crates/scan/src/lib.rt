@@ -8,10 +8,8 @@ pub use finishing::finish;
 pub use starting::start;
 pub use taking::piece;
 ghost use mathlib.Core.Path.{_≡_};
-ghost use Prim.Native.Nat.{ℕ, _*_, _≤_, _<_, max};
-ghost use lib.ListN.{getD};
+ghost use Prim.Native.Nat.{_*_, _≤_};
 ghost use Rattle.format.specs.Methods.{formatOf};
-ghost use Rattle.scan.specs.declared.Scan.{Scan};
 ghost use Rattle.scan.specs.Scans.{fit};
 ghost use Rattle.scan.specs.Steps.{memberFit, membersFit};
 use format::MOST_TAGS;
@@ -32,46 +30,6 @@ pub struct Scan {
 pub struct Taken {
     pub refusal: u8,
     pub state: Scan,
-}
-
-// The greater of two positions.
-fn most(a: u16, b: u16) -> u16
-    ensures { λ r. ⌜ r ≡ max a b ⌝ }
-{
-    if a < b { b } else { a }
-}
-
-// And of two bytes.
-fn greater(a: u8, b: u8) -> u8
-    ensures { λ r. ⌜ r ≡ max a b ⌝ }
-{
-    if a < b { b } else { a }
-}
-
-// The furthest of all sixteen positions: none is past it.
-fn furthest(at: [u16; 16]) -> u16
-    ensures { λ r. ⌜ ((i : ℕ) → i < 16 → getD at i 0 ≤ r) ⌝ }
-{
-    let mut far: u16 = 0;
-    let mut i: usize = 0;
-    while i < 16 {
-        far = most(far, at[i]);
-        i += 1;
-    }
-    far
-}
-
-// The greatest of all sixteen bytes that wait.
-fn most_waiting(waiting: [u8; 16]) -> u8
-    ensures { λ r. ⌜ ((i : ℕ) → i < 16 → getD waiting i 0 ≤ r) ⌝ }
-{
-    let mut most: u8 = 0;
-    let mut i: usize = 0;
-    while i < 16 {
-        most = greater(most, waiting[i]);
-        i += 1;
-    }
-    most
 }
 
 // Whether a member may stand at a position with this byte waiting: none past the end of a block, and nothing waits but where a byte can.
@@ -110,21 +68,15 @@ fn tag_at(method: u8, member: usize) -> usize
     format::tag_length(method) * member
 }
 
-// Whether a state is fit, by those of its fields that tell: its numbers are in range, its members' positions too, and bytes wait only where they can. That of all sixteen none is too far
-// and none waits tells it at once; else each of the members has to be looked at.
-fn fit(array: Array, stripe: u64, at: [u16; 16], waiting: [u8; 16]) -> bool
-    ensures { λ r. ⌜ ((s : Scan) → s .array ≡ array → s .stripe ≡ stripe → s .at ≡ at → s .waiting ≡ waiting → r ≡ fit s) ⌝ }
+// Whether a state is fit: its numbers are in range, its members' positions too, and bytes wait only where they can.
+fn fit(state: Scan) -> bool
+    ensures { λ r. ⌜ r ≡ fit state ⌝ }
 {
-    let members = array.members;
-    let method = array.method;
-    if layout::stripe_refusal(array, stripe) != 0 {
+    let array = state.array;
+    let at = state.at;
+    let waiting = state.waiting;
+    if layout::stripe_refusal(array, state.stripe) != 0 {
         return false;
     }
-    if furthest(at) as usize > format::block_length(method) {
-        return members_fit(method, at, waiting, members);
-    }
-    if most_waiting(waiting) != 0 {
-        return members_fit(method, at, waiting, members);
-    }
-    true
+    members_fit(array.method, at, waiting, array.members)
 }

@@ -1,14 +1,14 @@
 // A piece of a member's block is taken in.
 ghost use mathlib.Core.Path.{_≡_};
-ghost use Prim.Native.Nat.{_+_, _-_, _*_, _≤_, _<_};
-ghost use mathlib.Core.Bool.{cond};
+ghost use Prim.Native.Nat.{ℕ, _+_, _-_, _*_, _≤_, _<_};
+ghost use mathlib.Core.Bool.{true, cond, _&&_};
 ghost use lib.Dec.{eqb};
 ghost use lib.ListN.{length, getD, set};
 ghost use lib.Seq.{sets};
 ghost use Rattle.format.specs.Methods.{formatOf};
 ghost use Rattle.tag.specs.Blocks.{formatAt};
 ghost use Rattle.scan.specs.Steps.{combinedFrom, tagsFrom};
-ghost use Rattle.scan.specs.Scans.{dataOfPiece, buffer, advanced, pieceRefusal, pieceState, pieceWork};
+ghost use Rattle.scan.specs.Scans.{fit, dataOfPiece, buffer, advanced, pieceRefusal, pieceState, pieceWork};
 use crate::Scan;
 use crate::Taken;
 use crate::fit;
@@ -21,6 +21,55 @@ use format::value_in;
 use format::waiting_in;
 use xor::least;
 
+// A flag that stays as long as something holds.
+fn still(flag: bool, holds: bool) -> bool
+    ensures { λ r. ⌜ r ≡ (flag && holds) ⌝ }
+{
+    if holds { flag } else { false }
+}
+
+// Whether of all sixteen positions none is past an end.
+fn none_past(at: [u16; 16], end: u16) -> bool
+    ensures { λ r. ⌜ (r ≡ true → (i : ℕ) → i < 16 → getD at i 0 ≤ end) ⌝ }
+{
+    let mut none = true;
+    let mut i: usize = 0;
+    while i < 16 {
+        none = still(none, at[i] <= end);
+        i += 1;
+    }
+    none
+}
+
+// Whether for none of all sixteen a byte waits.
+fn none_waits(waiting: [u8; 16]) -> bool
+    ensures { λ r. ⌜ (r ≡ true → (i : ℕ) → i < 16 → getD waiting i 0 ≡ 0) ⌝ }
+{
+    let mut none = true;
+    let mut i: usize = 0;
+    while i < 16 {
+        none = still(none, waiting[i] == 0);
+        i += 1;
+    }
+    none
+}
+
+// Whether a state is fit: at once where it can be told of all sixteen together, else by its members one by one.
+fn fit_at_once(state: Scan) -> bool
+    ensures { λ r. ⌜ r ≡ fit state ⌝ }
+{
+    let array = state.array;
+    let at = state.at;
+    let waiting = state.waiting;
+    let end = format::block_length(array.method) as u16;
+    if none_past(at, end) {
+        if none_waits(waiting) {
+            return layout::stripe_refusal(array, state.stripe) == 0;
+        }
+    }
+    fit(state)
+}
+
 // The refusal number of a piece: an unfit state, no such member, a work buffer of another length, more than the member lacks.
 fn piece_refusal(state: Scan, member: usize, count: usize, length: usize) -> u8
     ensures { λ r. ⌜ r ≡ pieceRefusal state member count length ⌝ }
@@ -28,9 +77,8 @@ fn piece_refusal(state: Scan, member: usize, count: usize, length: usize) -> u8
     let array = state.array;
     let members = array.members;
     let at = state.at;
-    let waiting = state.waiting;
     let method = array.method;
-    if !fit(array, state.stripe, at, waiting) {
+    if !fit_at_once(state) {
         return 4;
     }
     if member >= members {
@@ -84,7 +132,7 @@ fn replaced(held: [u16; 16], place: u16, value: u16) -> [u16; 16]
     next
 }
 
-// Sixteen bytes with another at one place. Most often it stands there already, and then nothing is stored that the next call would have to wait for.
+// Sixteen bytes with another at one place. Most often it stands there already, and then they are handed back as they came.
 fn replaced_byte(held: [u8; 16], place: usize, value: u8) -> [u8; 16]
     requires { ⌜ place < 16 ⌝ }
     ensures { λ r. ⌜ r ≡ set held place value ⌝ }
@@ -201,6 +249,18 @@ fn take_in(state: Scan, member: usize, bytes: &[u8], work: &mut [u8]) -> Scan
     }
 }
 
+// The state to go on with: as it came where this refusal number is one, else with the piece taken in.
+fn next(refusal: u8, state: Scan, member: usize, bytes: &[u8], work: &mut [u8]) -> Scan
+    requires { ⌜ refusal ≡ pieceRefusal state member (length (now bytes)) (length (now work)) ⌝ }
+    ensures { λ r. ⌜ r ≡ pieceState state member (now (bytes .entry)) (length (now (work .entry))) ⌝ }
+    ensures { λ _. ⌜ now (work .exit) ≡ pieceWork state member (now (bytes .entry)) (now (work .entry)) ⌝ }
+{
+    if refusal != 0 {
+        return state;
+    }
+    take_in(state, member, bytes, work)
+}
+
 // Takes in the next bytes of a member, or hands the state back as it came where they are refused.
 pub fn piece(state: Scan, member: usize, bytes: &[u8], work: &mut [u8]) -> Taken
     ensures { λ r. ⌜ r .refusal ≡ pieceRefusal state member (length (now (bytes .entry))) (length (now (work .entry))) ⌝ }
@@ -208,15 +268,6 @@ pub fn piece(state: Scan, member: usize, bytes: &[u8], work: &mut [u8]) -> Taken
     ensures { λ _. ⌜ now (work .exit) ≡ pieceWork state member (now (bytes .entry)) (now (work .entry)) ⌝ }
 {
     let refusal = piece_refusal(state, member, bytes.len(), work.len());
-    if refusal != 0 {
-        return Taken {
-            refusal: refusal,
-            state: state,
-        };
-    }
-    let next = take_in(state, member, bytes, work);
-    Taken {
-        refusal: 0,
-        state: next,
-    }
+    let state = next(refusal, state, member, bytes, work);
+    Taken { refusal, state }
 }

@@ -8,7 +8,7 @@ use native.Mathlib.Nat.{zero-add, suc-add, add-comm, mul-zero, mul-suc, le-of-su
 use native.Mathlib.Decide.{decLt}
 use native.Mathlib.Omega.{arith}
 use lib.ListN.{length, getD, take, drop, set, length-append, length-take, length-drop, take-append-drop}
-use lib.Seq.{take-nil, sets, length-sets, sets-eq, take-set-le, drop-set-lt, take-at, drop-at, drop-append-add, drop-append-le, drop-drop}
+use lib.Seq.{take-nil, sets, sets-eq, set-comm, take-set-le, drop-set-lt, take-at, drop-at, drop-append-add, drop-append-le, drop-drop}
 use Rattle.format.specs.Formats.{guard}
 use Rattle.layout.specs.Places.{ownerRefusal}
 use Rattle.layout.specs.declared.Array.{Array}
@@ -58,6 +58,17 @@ pub span-sets-above : (l : List ℕ) (from size at : ℕ) (vs : List ℕ) → at
 unfolding span
 span-sets-above l from size at vs h = ap (take size) (drop-sets from l at vs h)
 
+-- runs that lie apart may be written in either order
+set-sets : (l : List ℕ) (i v at : ℕ) (ws : List ℕ) → i < at → sets (set l i v) at ws ≡ set (sets l at ws) i v
+set-sets l i v at [] h = refl
+set-sets l i v at (w ∷ ws) h =
+    ap (λ (x : List ℕ). sets x (suc at) ws) (set-comm l i at v w (λ e. omega (arith, e, h))) ∙ set-sets (set l at w) i v (suc at) ws (omega arith)
+
+sets-sets : (l : List ℕ) (at : ℕ) (vs : List ℕ) (from : ℕ) (ws : List ℕ) → at + length vs ≤ from → sets (sets l at vs) from ws ≡ sets (sets l from ws) at vs
+sets-sets l at [] from ws h = refl
+sets-sets l at (v ∷ vs) from ws h =
+    sets-sets (set l at v) (suc at) vs from ws (omega arith) ∙ ap (λ (x : List ℕ). sets x (suc at) vs) (set-sets l at v from ws (omega arith))
+
 -- ---- a block written into a stripe
 
 pub block-written : (F : Format) (bytes : List ℕ) (m : ℕ) (block : List ℕ) → length block ≡ (F .blockLength) → (F .blockLength) * m + (F .blockLength) ≤ length bytes → blockOf F (withBlock F bytes m block) m ≡ block
@@ -72,22 +83,36 @@ block-kept F bytes m k block long ne = go (decLt k m)
         let after : m < k = omega arith in
         span-sets-above bytes ((F .blockLength) * k) (F .blockLength) ((F .blockLength) * m) block (omega (arith, times-next (F .blockLength) m k after))
 
--- written as the code writes it: its data, then the tag due there
-pub block-in-two : (a : Array) (stripe m g from to : ℕ) (f : Fields) (bytes once twice content : List ℕ) → ownerRefusal a stripe m ≡ 0 → length content ≡ formatAt a .dataLength
+-- two blocks may be written in either order
+pub blocks-swap : (F : Format) (bytes : List ℕ) (m k : ℕ) (x y : List ℕ) → length x ≡ F .blockLength → length y ≡ F .blockLength → m ≢ k
+    → withBlock F (withBlock F bytes m x) k y ≡ withBlock F (withBlock F bytes k y) m x
+blocks-swap F bytes m k x y lx ly ne = by-order (decLt m k)
+  where
+    by-order : Dec (m < k) → withBlock F (withBlock F bytes m x) k y ≡ withBlock F (withBlock F bytes k y) m x
+    by-order (yes l) = sets-sets bytes (F .blockLength * m) x (F .blockLength * k) y (omega (arith, times-next (F .blockLength) m k l))
+    by-order (no l) =
+        let after : k < m = omega arith in
+        sym (sets-sets bytes (F .blockLength * k) y (F .blockLength * m) x (omega (arith, times-next (F .blockLength) k m after)))
+
+-- written as the code writes it: the tag due there in its place
+pub tag-in-place : (a : Array) (stripe m g to : ℕ) (f : Fields) (bytes last : List ℕ) → ownerRefusal a stripe m ≡ 0
     → formatAt a .blockLength * m + formatAt a .blockLength ≤ length bytes → f ≡ dueAt a stripe m g
-    → from ≡ formatAt a .blockLength * m → to ≡ from + formatAt a .dataLength
-    → once ≡ sets bytes from content → twice ≡ tagWritten (formatAt a) f once to
+    → to ≡ formatAt a .blockLength * m + formatAt a .dataLength → last ≡ tagWritten (formatAt a) f bytes to
+    → last ≡ sets bytes (formatAt a .blockLength * m + formatAt a .dataLength) (tagBytes (formatAt a) (due a stripe m g))
+tag-in-place a stripe m g to f bytes last place room ef there e =
+    let F = formatAt a in
+    e ∙ written-inside F bytes to f (omega (arith, F .block-parts)) ∙ ap₂ (λ (k : ℕ) (x : Fields). sets bytes k (tagBytes F x)) there (ef ∙ due-somewhere a stripe m g place)
+
+-- the data, then the tag
+pub data-then-tag : (a : Array) (stripe m g : ℕ) (bytes once twice content : List ℕ) → length content ≡ formatAt a .dataLength
+    → once ≡ sets bytes (formatAt a .blockLength * m) content
+    → twice ≡ sets once (formatAt a .blockLength * m + formatAt a .dataLength) (tagBytes (formatAt a) (due a stripe m g))
     → twice ≡ withBlock (formatAt a) bytes m (taggedBy a stripe m g content)
 unfolding taggedBy
-block-in-two a stripe m g from to f bytes once twice content place long room ef here there e₁ e₂ =
+data-then-tag a stripe m g bytes once twice content long e₁ e₂ =
     let F = formatAt a in
-    let tag = tagBytes F f in
-    let kept : length once ≡ length bytes = ap length e₁ ∙ length-sets bytes from content in
-    let inside : to + F .tagLength ≤ length once = omega (arith, F .block-parts) in
-    let due-here : tag ≡ tagBytes F (due a stripe m g) = ap (tagBytes F) (ef ∙ due-somewhere a stripe m g place) in
-    let behind : to ≡ from + length content = there ∙ ap (λ (k : ℕ). from + k) (sym long) in
-    e₂ ∙ written-inside F once to f inside ∙ ap₂ (λ (l : List ℕ) (k : ℕ). sets l k tag) e₁ behind ∙ sets-append bytes from content tag
-    ∙ ap₂ (λ (k : ℕ) (l : List ℕ). sets bytes k (content ++ l)) here due-here
+    let tag = tagBytes F (due a stripe m g) in
+    e₂ ∙ ap₂ (λ (l : List ℕ) (k : ℕ). sets l (F .blockLength * m + k) tag) e₁ (sym long) ∙ sets-append bytes (F .blockLength * m) content tag
 
 -- ---- blocks joined
 

@@ -20,10 +20,10 @@ use Rattle.tag.proofs.Guards.{own-plain}
 use Rattle.tag.proofs.Cases.{good-guard}
 use Rattle.tag.proofs.Tagged.{length-data}
 use Rattle.verdict.specs.Verdicts.{saysClean, combinedGuards, quickNumbers}
-use Rattle.verdict.proofs.Quick.{sound-quick, quick-fits}
+use Rattle.verdict.proofs.Quick.{sound-quick, compared-fits}
 use Rattle.stripe.specs.Tables.{table}
 use Rattle.stripe.specs.Stripes.{blockOf, memberData, storedGuard, storedGuards, Parity, Settled}
-use Rattle.stripe.specs.Verdicts.{scrubNumbers, scrubRefusal, clean}
+use Rattle.stripe.specs.Verdicts.{scrubNumbers, scrubRefusal, clean, quickOf}
 use Rattle.stripe.proofs.Tables.{length-table, getD-table, table-ext, map-table}
 use Rattle.stripe.proofs.Rows.{length-span}
 use Rattle.stripe.proofs.Guards.{together-guards}
@@ -81,10 +81,10 @@ module _ (a : Array) (stripe : ℕ) (bytes : List ℕ) (is-clean : scrubNumbers 
   guards-zero = guards-settled ∙ settled-none (a .method) (a .members)
 
   -- so the quick scrub of them fits
-  pub clean-fits : quickNumbers (stored a bytes) ≡ 1 ∷ 0 ∷ 0 ∷ 0 ∷ []
+  pub clean-fits : quickOf a (stored a bytes) ≡ 1 ∷ 0 ∷ 0 ∷ 0 ∷ []
   clean-fits =
       let sound = stripe-sound a stripe (scrub-sound a stripe (length bytes) taken .0) .array in
-      quick-fits (stored a bytes) (rw length-table (sound-quick (a .members) (sound .few) (sound .many))) guards-zero
+      compared-fits (settled (formatAt a) (a .members)) (stored a bytes) (rw length-table (sound-quick (a .members) (sound .few) (sound .many))) guards-settled
 
   -- one member's block replaced, by anything: its guard before and its guard now are what is left
   pub guards-but-one : (member : ℕ) (later : List ℕ) → member < a .members

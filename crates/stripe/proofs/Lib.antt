@@ -8,6 +8,7 @@ pub mod Others
 pub mod Checked
 pub mod Rebuilds
 pub mod Parity
+pub mod Pieces
 pub mod Carried
 pub mod Guards
 pub mod Injective

@@ -1,5 +1,5 @@
--- The quick scrub on the stored guards of whole blocks, where these are guards of data (method 1): where no member is bad or unchecked it sees the guard of the blocks' combination, so it fits
--- where the data combine to zero, and differs wherever they do not and all one bits lie within sixteen successive bits.
+-- The quick scrub on the stored guards of whole blocks, where these are guards of data: where no member is bad or unchecked it sees the guard of the blocks' combination, so it fits
+-- where the data combine to zero, and differs wherever they do not and all one bits lie within as many successive bits as a guard reaches over.
 -- Assumes nothing.
 use mathlib.Core.Path.{_≡_, refl, sym, ap, ap₂, _∙_}
 use mathlib.Core.Bool.{false}
@@ -8,16 +8,18 @@ use mathlib.Core.Logic.{_≢_}
 use Prim.Native.Nat.{ℕ, zero, suc, _+_, _≤_, _<_, suc-le-suc}
 use native.Mathlib.Nat.{zero-lt-suc, le-of-suc-le-suc, not-suc-le-zero}
 use native.Mathlib.Omega.{arith}
-use lib.Bits.{bitXor, xor-zero-r}
+use lib.Bits.{bitXor, xor-comm}
+use Rattle.xor.proofs.Bits.{xor-twice, xor-undo}
 use lib.Dec.{lit<}
 use lib.ListN.{length, getD, replicate, length-map, length-replicate}
 use Rattle.xor.specs.Xors.{xors, addAll, combination}
 use Rattle.xor.proofs.Lists.{length-xors, xors-self}
 use Rattle.xor.proofs.Combination.{length-combination, bytes-addAll}
 use Rattle.crc.specs.Crc.{bitsOf, Bytes, Within}
-use Rattle.format.specs.Formats.{Format, guard, spare}
-use Rattle.format.proofs.Laws.{combines, notices, blank-none}
-use Rattle.format.proofs.Combined.{spare-zero, guard-combination}
+use Rattle.format.specs.Formats.{Format, guard, blank, spare, settled}
+use Rattle.format.specs.Methods.{formatOf}
+use Rattle.format.proofs.Laws.{combines, notices, settled-first}
+use Rattle.format.proofs.Combined.{spare-suc, settled-plain, guard-combination}
 use Rattle.crc.proofs.Linear.{bitsOf-xors}
 use Rattle.layout.specs.Ranges.{Sound}
 use Rattle.layout.specs.declared.Array.{Array}
@@ -25,11 +27,11 @@ use Rattle.tag.specs.Blocks.{formatAt, dataOf}
 use Rattle.tag.proofs.Guards.{own-plain}
 use Rattle.tag.proofs.Cases.{good-guard}
 use Rattle.tag.proofs.Tagged.{length-data, bytes-of-data}
-use Rattle.verdict.specs.Verdicts.{combinedGuards, quickRefusal, quickNumbers}
+use Rattle.verdict.specs.Verdicts.{combinedGuards, quickRefusal, comparedWith, quickNumbers}
 use Rattle.verdict.proofs.Verdicts.{zeros-at}
-use Rattle.verdict.proofs.Quick.{sound-quick, quick-fits, quick-differs}
+use Rattle.verdict.proofs.Quick.{sound-quick, compared-fits, compared-differs}
 use Rattle.stripe.specs.Stripes.{storedGuard, Whole}
-use Rattle.stripe.specs.Verdicts.{scrubBlocks}
+use Rattle.stripe.specs.Verdicts.{scrubBlocks, quickOf}
 use Rattle.stripe.proofs.Guards.{together-guards}
 use Rattle.stripe.proofs.Scrubs.{blocks-good}
 
@@ -80,12 +82,13 @@ module _ (a : Array) (s : ℕ) (blocks : List (List ℕ)) (sound : Sound a) (who
       ∙ sym (together-guards (map (guard F) (map (dataOf F) blocks)))) (sym count)
       ∙ sym (guard-combination F (combines (a .method) plain) (map (dataOf F) blocks) (lengths-data F blocks (whole .long)))
 
-  -- method 1: a block of zeros has guard 0
-  combined-plainly : combinedGuards (map (storedGuard (formatAt a)) blocks)
-      ≡ guard (formatAt a) (combination (formatAt a .dataLength) (map (dataOf (formatAt a)) blocks))
-  combined-plainly =
+  -- the same, told of the guards
+  pub combined-is : combinedGuards (map (storedGuard (formatAt a)) blocks)
+      ≡ bitXor (guard (formatAt a) (combination (formatAt a .dataLength) (map (dataOf (formatAt a)) blocks))) (spare (formatAt a) (suc (a .members)))
+  combined-is =
       let x = combinedGuards (map (storedGuard (formatAt a)) blocks) in
-      sym (xor-zero-r x) ∙ ap (bitXor x) (sym (spare-zero (formatAt a) (suc (a .members)) (blank-none (a .method) plain))) ∙ guards-combined
+      let s = spare (formatAt a) (suc (a .members)) in
+      sym (xor-twice x s) ∙ ap (λ (y : ℕ). bitXor y s) guards-combined
 
   enough : quickRefusal (length (map (storedGuard (formatAt a)) blocks)) ≡ 0
   enough =
@@ -94,25 +97,38 @@ module _ (a : Array) (s : ℕ) (blocks : List (List ℕ)) (sound : Sound a) (who
 
   -- the data combine to zero at every byte: it fits
   pub fits-where-zero : combination (formatAt a .dataLength) (map (dataOf (formatAt a)) blocks) ≡ replicate (formatAt a .dataLength) 0
-      → quickNumbers (map (storedGuard (formatAt a)) blocks) ≡ 1 ∷ 0 ∷ 0 ∷ 0 ∷ []
-  fits-where-zero e = quick-fits (map (storedGuard (formatAt a)) blocks) enough (combined-plainly ∙ ap (guard (formatAt a)) e ∙ blank-none (a .method) plain)
+      → quickOf a (map (storedGuard (formatAt a)) blocks) ≡ 1 ∷ 0 ∷ 0 ∷ 0 ∷ []
+  fits-where-zero e =
+      let F = formatAt a in
+      let n = a .members in
+      compared-fits (settled F n) (map (storedGuard F) blocks) enough
+      (combined-is ∙ ap₂ bitXor (ap (guard F) e) (sym (spare-suc F n)) ∙ ap (bitXor (blank F)) (xor-comm (spare F n) (blank F)) ∙ xor-undo (blank F) (spare F n)
+      ∙ sym (settled-plain F n plain))
 
-  -- they do not, by one bits that lie within sixteen successive bits: it differs
+  -- they do not, by one bits that lie within as many successive bits as a guard reaches over: it differs
   pub differs-within : combination (formatAt a .dataLength) (map (dataOf (formatAt a)) blocks) ≢ replicate (formatAt a .dataLength) 0
-      → Within 16 (bitsOf (combination (formatAt a .dataLength) (map (dataOf (formatAt a)) blocks))) (bitsOf (replicate (formatAt a .dataLength) 0))
-      → (guard (formatAt a) (combination (formatAt a .dataLength) (map (dataOf (formatAt a)) blocks)) ≢ 0)
-      × (quickNumbers (map (storedGuard (formatAt a)) blocks)
-      ≡ 1 ∷ 0 ∷ 1 ∷ guard (formatAt a) (combination (formatAt a .dataLength) (map (dataOf (formatAt a)) blocks)) ∷ [])
+      → Within (formatAt a .reach) (formatAt a .bits (combination (formatAt a .dataLength) (map (dataOf (formatAt a)) blocks))) (formatAt a .bits (replicate (formatAt a .dataLength) 0))
+      → (guard (formatAt a) (combination (formatAt a .dataLength) (map (dataOf (formatAt a)) blocks)) ≢ blank (formatAt a))
+      × (quickOf a (map (storedGuard (formatAt a)) blocks)
+      ≡ 1 ∷ 0 ∷ 1 ∷ bitXor (guard (formatAt a) (combination (formatAt a .dataLength) (map (dataOf (formatAt a)) blocks))) (spare (formatAt a) (suc (a .members))) ∷ [])
   differs-within ne within =
       let F = formatAt a in
+      let n = a .members in
       let combined = combination (F .dataLength) (map (dataOf F) blocks) in
-      let seen : guard F combined ≢ 0 =
-      λ e. notices (a .method) plain combined (replicate (F .dataLength) 0)
+      let all = combinedGuards (map (storedGuard F) blocks) in
+      let seen : guard F combined ≢ blank F =
+      notices (a .method) plain combined (replicate (F .dataLength) 0)
       (bytes-addAll (replicate (F .dataLength) 0) (map (dataOf F) blocks) (bytes-zeros (F .dataLength)) (bytes-data F blocks (whole .bytes)))
       (bytes-zeros (F .dataLength))
       (length-combination (F .dataLength) (map (dataOf F) blocks) ∙ sym (length-replicate {A = ℕ} (F .dataLength) 0))
-      within ne (e ∙ sym (blank-none (a .method) plain)) in (
+      within ne in
+      let off : all ≢ settled F n =
+      λ e. seen (sym guards-combined ∙ ap₂ bitXor (e ∙ settled-plain F n plain) (sym (spare-suc F n)) ∙ xor-undo (spare F n) (blank F)) in (
         seen,
-        quick-differs (map (storedGuard F) blocks) enough (λ e. seen (sym combined-plainly ∙ e))
-            ∙ ap (λ (g : ℕ). 1 ∷ 0 ∷ 1 ∷ g ∷ []) combined-plainly,
+        compared-differs (settled F n) (map (storedGuard F) blocks) enough off ∙ ap (λ (g : ℕ). 1 ∷ 0 ∷ 1 ∷ g ∷ []) combined-is,
       )
+
+-- by method 1 it is the quick scrub of guards of sixteen bits
+pub quick-of-first : (a : Array) (guards : List ℕ) → a .method ≡ 1 → quickOf a guards ≡ quickNumbers guards
+unfolding quickNumbers
+quick-of-first a guards e = ap (λ (due : ℕ). comparedWith due guards) (ap (λ (m : ℕ). settled (formatOf m) (a .members)) e ∙ settled-first (a .members))

@@ -3,12 +3,12 @@
 use mathlib.Core.Path.{_≡_, refl, sym, ap, ap₂, _∙_}
 use mathlib.Core.Logic.{_≢_}
 use mathlib.Core.Bool.{Bool, true, false}
-use mathlib.Core.List.{List, [], _∷_, _++_, append-nil}
+use mathlib.Core.List.{List, [], _∷_}
 use Prim.Native.Nat.{ℕ, zero, suc, _+_, _-_, _*_, _≤_, _<_}
 use native.Mathlib.Omega.{arith}
 use borrow.Author.Tests.{eqb-true, eq-eqb, ne-eqb}
-use lib.ListN.{length, take, drop, drop-of-length-le}
-use lib.Seq.{sets, sets-eq, take-take}
+use lib.ListN.{length, take, drop}
+use lib.Seq.{sets}
 use Rattle.layout.specs.Answers.{answer}
 use Rattle.layout.specs.Arrays.{blockRefusal}
 use Rattle.layout.specs.Places.{stripeOf, memberOf, placeNumbers, ownerRefusal}
@@ -21,17 +21,14 @@ use Rattle.tag.proofs.Cases.{bad-range}
 use Rattle.stripe.specs.Tables.{span}
 use Rattle.stripe.specs.Stripes.{stripeLength, blockOf, othersGood, othersData, guardsFit, recoverable}
 use Rattle.stripe.specs.Jobs.{unlessRefused, storedGood, storedBad, serveRefusal, servedData, readRefusal, readNumbers, readOut, Reads}
+use Rattle.stripe.specs.Steps.{fitting}
 use Rattle.tag.proofs.Tagged.{length-data}
 use Rattle.stripe.proofs.Rows.{lent-span, length-span}
 use Rattle.stripe.proofs.Guards.{data-span}
+use Rattle.stripe.proofs.Pieces.{sets-whole}
 use Rattle.stripe.proofs.Others.{others-are-good, good-others}
 
 -- ---- a buffer filled whole
-
-pub sets-whole : (l vs : List ℕ) → length l ≡ length vs → sets l 0 vs ≡ vs
-sets-whole l vs h =
-    sets-eq vs l 0 (omega arith)
-    ∙ ap (λ (x : List ℕ). vs ++ x) (drop-of-length-le l {i = 0 + length vs} (omega arith)) ∙ append-nil vs
 
 -- the data of a block, lent out of its stripe
 pub lent-data : (F : Format) (member from size : ℕ) (bytes : List ℕ) → from ≡ F .blockLength * member → size ≡ F .dataLength
@@ -56,20 +53,13 @@ bad-other a stripe skip bytes k h other bad = by-flag (othersGood a stripe skip 
 
 -- whether a block can be made again, by its two tests
 module _ (a : Array) (stripe member : ℕ) (bytes : List ℕ) where
-  abbrev fitting : Bool
-  fitting = guardsFit a stripe member bytes (guard (formatAt a) (othersData (formatAt a) (a .members) member bytes))
-
-  pub can-serve : othersGood a stripe member bytes ≡ true → fitting ≡ true → recoverable a stripe member bytes ≡ true
-  unfolding recoverable
-  can-serve g f = rw (g, f)
-
   pub cannot-good : othersGood a stripe member bytes ≡ false → recoverable a stripe member bytes ≡ false
   unfolding recoverable
   cannot-good g = rw g
 
-  pub cannot-fit : othersGood a stripe member bytes ≡ true → fitting ≡ false → recoverable a stripe member bytes ≡ false
+  pub serve-by-fit : othersGood a stripe member bytes ≡ true → recoverable a stripe member bytes ≡ fitting a stripe member bytes
   unfolding recoverable
-  cannot-fit g f = rw (g, f)
+  serve-by-fit g = rw g
 
 -- ---- the block at a place
 
@@ -195,7 +185,7 @@ module _ (a : Array) (block : ℕ) (bytes out : List ℕ) where
           let s = stripeOf a block in
           let m = memberOf a block in
           let made = othersData (formatAt a) (a .members) m bytes in
-          read-served s m (1 ∷ 0 ∷ 1 ∷ []) made own (serve-rebuilt a s m bytes out long room bad made (can-serve a s m bytes (good-others a s m bytes others) fits) refl)
+          read-served s m (1 ∷ 0 ∷ 1 ∷ []) made own (serve-rebuilt a s m bytes out long room bad made (serve-by-fit a s m bytes (good-others a s m bytes others) ∙ fits) refl)
 
       pub read-damaged : (k : ℕ) → k < a .members → k ≢ memberOf a block → storedGood a (stripeOf a block) k bytes ≡ false → Reads a block bytes out (0 ∷ 9 ∷ 0 ∷ []) out
       read-damaged k h other too =
@@ -210,4 +200,4 @@ module _ (a : Array) (block : ℕ) (bytes out : List ℕ) where
       read-unfit others unfit =
           let s = stripeOf a block in
           let m = memberOf a block in
-          read-served s m (0 ∷ 9 ∷ 0 ∷ []) out own (serve-damaged a s m bytes out long room bad (cannot-fit a s m bytes (good-others a s m bytes others) unfit))
+          read-served s m (0 ∷ 9 ∷ 0 ∷ []) out own (serve-damaged a s m bytes out long room bad (serve-by-fit a s m bytes (good-others a s m bytes others) ∙ unfit))

@@ -6,7 +6,7 @@ use Prim.Native.Nat.{ℕ, _+_, _*_}
 use lib.ListN.{length, getD, drop, replicate, length-replicate}
 use Rattle.format.specs.Formats.{guard}
 use Rattle.format.specs.Methods.{formatOf}
-use Rattle.format.proofs.Laws.{blank-none}
+use Rattle.format.proofs.Laws.{blank-first}
 use Rattle.tag.specs.Numbers.{numberOf}
 use Rattle.tag.specs.Blocks.{dataOf, tagOf}
 use Rattle.tag.specs.Tags.{found}
@@ -37,7 +37,7 @@ guards-of-zeros size full =
     let long : length (replicate {A = ℕ} size 0) ≡ 512 = length-replicate {A = ℕ} size 0 ∙ full in (
       ap (λ (tag : List ℕ). found (formatOf 1) tag .guard) (tag-of-joined (formatOf 1) (replicate size 0) wrongTag long),
       ap (guard (formatOf 1)) (data-of-joined (formatOf 1) (replicate size 0) wrongTag long)
-          ∙ ap (λ (k : ℕ). guard (formatOf 1) (replicate k 0)) full ∙ blank-none 1 refl,
+          ∙ ap (λ (k : ℕ). guard (formatOf 1) (replicate k 0)) full ∙ blank-first,
     )
 
 pub stored-guard-of-zeros : (storedGuard (formatOf 1) (mistagged 512) ≡ 0x1234) × (guard (formatOf 1) (dataOf (formatOf 1) (mistagged 512)) ≡ 0)

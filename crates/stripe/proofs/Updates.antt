@@ -2,17 +2,17 @@
 -- Assumes nothing.
 use mathlib.Core.Path.{_≡_, refl, sym, ap, ap₂, _∙_}
 use mathlib.Core.Logic.{_≢_}
-use mathlib.Core.Bool.{Bool, true, false, not, cond, _&&_}
+use mathlib.Core.Bool.{Bool, true, false, not, _&&_}
 use mathlib.Core.List.{List, [], _∷_}
 use Prim.Native.Nat.{ℕ, zero, suc, _+_, _-_, _*_, _≤_}
 use native.Mathlib.Omega.{arith}
 use borrow.Author.Tests.{eq-eqb, ne-eqb, eqb-true}
 use lib.Bits.{bitXor}
 use lib.Dec.{eqb}
-use lib.ListN.{length, take, drop}
-use lib.Seq.{sets, length-sets, sets-eq, take-at, take-all}
+use lib.ListN.{length}
+use lib.Seq.{sets}
 use Rattle.xor.specs.Xors.{xors}
-use Rattle.xor.proofs.Lists.{length-xors, take-xors}
+use Rattle.xor.proofs.Lists.{length-xors}
 use Rattle.layout.specs.Answers.{refuse}
 use Rattle.layout.specs.Arrays.{blockRefusal}
 use Rattle.layout.specs.Places.{parityMember, placeNumbers, ownerRefusal}
@@ -20,17 +20,21 @@ use Rattle.layout.specs.declared.Array.{Array}
 use Rattle.layout.proofs.Answers.{refuse-none}
 use Rattle.layout.proofs.Ranges.{place-sound, sound-place}
 use Rattle.layout.proofs.Members.{parity-below}
-use Rattle.format.specs.Formats.{Format, guard}
+use Rattle.xor.proofs.Bits.{xor-swap, xor-twice}
+use Rattle.format.specs.Formats.{Format, guard, blank}
+use Rattle.format.proofs.Laws.{combines}
 use Rattle.format.proofs.Sizes.{times-next}
 use Rattle.tag.specs.Blocks.{formatAt, dataOf}
-use Rattle.tag.specs.Tags.{guardDue, taggedBy, tagged}
+use Rattle.tag.specs.Tags.{guardDue, due, tagBytes, taggedBy, tagged}
+use Rattle.tag.proofs.Cases.{good-guard}
 use Rattle.tag.proofs.Guards.{own-data, own-plain, carried-parity, guard-own, guard-carried}
-use Rattle.tag.proofs.Tagged.{length-data, tagged-by}
+use Rattle.tag.proofs.Tagged.{length-data, length-tagged, tagged-by}
 use Rattle.stripe.specs.Stripes.{stripeLength, blockOf, storedGuard}
 use Rattle.stripe.specs.Jobs.{unlessRefused, withBlock, storedGood, replaceRefusal, replaced, updateRefusal, updateBytes}
 use Rattle.stripe.specs.Accepted.{Replaceable}
 use Rattle.stripe.proofs.Rows.{length-span}
-use Rattle.stripe.proofs.Served.{lent-data, refused-by-place, PlacedAt}
+use Rattle.stripe.proofs.Blocks.{data-then-tag, blocks-swap}
+use Rattle.stripe.proofs.Served.{refused-by-place, PlacedAt}
 
 -- the parity's place is one of the array where any member's is
 pub parity-sound : (a : Array) (stripe member : ℕ) → ownerRefusal a stripe member ≡ 0 → ownerRefusal a stripe (parityMember a stripe) ≡ 0
@@ -86,9 +90,8 @@ module _ (a : Array) (stripe member new : ℕ) (bytes : List ℕ) where
     pub own : (formatAt a .blockLength) * member + (formatAt a .blockLength) ≤ length bytes
     pub parity : (formatAt a .blockLength) * parityMember a stripe + (formatAt a .blockLength) ≤ length bytes
 
-  pub inside : ownerRefusal a stripe member ≡ 0 → replaceRefusal a stripe member new bytes ≡ 0 → Inside
-  inside place e =
-      let r = replaceable e in
+  inside-whole : ownerRefusal a stripe member ≡ 0 → Replaceable a stripe member new bytes → Inside
+  inside-whole place r =
       let h = place-sound a stripe member place in
       let p = place-sound a stripe (parityMember a stripe) (parity-sound a stripe member place) in
       record {
@@ -97,6 +100,9 @@ module _ (a : Array) (stripe member new : ℕ) (bytes : List ℕ) where
         parity = omega (arith, times-next (formatAt a .blockLength) (parityMember a stripe) (a .members) (p .here));
       }
 
+  pub inside : ownerRefusal a stripe member ≡ 0 → replaceRefusal a stripe member new bytes ≡ 0 → Inside
+  inside place e = inside-whole place (replaceable e)
+
 -- ---- the parity's data, brought along
 
 pub length-moved : (F : Format) (parity : ℕ) (bytes old new : List ℕ) → F .blockLength * parity + F .blockLength ≤ length bytes
@@ -104,33 +110,6 @@ pub length-moved : (F : Format) (parity : ℕ) (bytes old new : List ℕ) → F 
 length-moved F parity bytes old new h =
     length-xors (xors (dataOf F (blockOf F bytes parity)) old) new ∙ length-xors (dataOf F (blockOf F bytes parity)) old
     ∙ length-data F (blockOf F bytes parity) (length-span (F .blockLength * parity) (F .blockLength) bytes h)
-
--- at the front of what is longer: a run written there, and others added
-pub front-put : (l vs : List ℕ) (n : ℕ) → length vs ≡ n → n ≤ length l → take n (sets l 0 vs) ≡ vs
-front-put l vs n long h = ap (take n) (sets-eq vs l 0 (omega arith)) ∙ take-at vs (drop (0 + length vs) l) n long
-
-pub front-xors : (l m : List ℕ) (n : ℕ) (whole : List ℕ) → take n l ≡ whole → length m ≡ n → take n (xors l m) ≡ xors whole m
-front-xors l m n whole e long = take-xors n l m ∙ ap₂ xors e (take-all n m (omega arith))
-
--- as the code does it: copied, and added to twice
-pub moved-by-steps : (F : Format) (parity member p m size : ℕ) (bytes new zeros copied cleared moved : List ℕ) → F .blockLength * parity + F .blockLength ≤ length bytes
-    → F .blockLength * member + F .blockLength ≤ length bytes → length new ≡ F .dataLength → F .dataLength ≤ length zeros
-    → p ≡ F .blockLength * parity → m ≡ F .blockLength * member → size ≡ F .dataLength
-    → copied ≡ sets zeros 0 (take (p + size - p) (drop p bytes))
-    → cleared ≡ xors copied (take (m + size - m) (drop m bytes))
-    → moved ≡ xors cleared new
-    → take (F .dataLength) moved ≡ xors (xors (dataOf F (blockOf F bytes parity)) (dataOf F (blockOf F bytes member))) new
-moved-by-steps F parity member p m size bytes new zeros copied cleared moved h k long room ep em es e₁ e₂ e₃ =
-    let n = F .dataLength in
-    let of = dataOf F (blockOf F bytes parity) in
-    let own = dataOf F (blockOf F bytes member) in
-    let first : take n copied ≡ of =
-    ap (take n) (e₁ ∙ ap (sets zeros 0) (lent-data F parity p size bytes ep es))
-    ∙ front-put zeros of n (length-data F (blockOf F bytes parity) (length-span (F .blockLength * parity) (F .blockLength) bytes h)) room in
-    let second : take n cleared ≡ xors of own =
-    ap (take n) (e₂ ∙ ap (xors copied) (lent-data F member m size bytes em es))
-    ∙ front-xors copied own n of first (length-data F (blockOf F bytes member) (length-span (F .blockLength * member) (F .blockLength) bytes k)) in
-    ap (take n) e₃ ∙ front-xors cleared new n (xors of own) second long
 
 -- ---- the block at a place
 
@@ -141,15 +120,6 @@ module _ (a : Array) (stripe member : ℕ) (new bytes : List ℕ) where
       (number ≡ replaceRefusal a stripe member (length new) bytes)
       × (left ≡ unlessRefused (replaceRefusal a stripe member (length new) bytes) (replaced a stripe member new bytes) bytes)
 
-  -- where the first block is written the second still lies in the stripe, and its data are long enough
-  pub second-inside : (parity : ℕ) (moved once written : List ℕ) → Inside a stripe member (length new) bytes → parity ≡ parityMember a stripe
-      → moved ≡ xors (xors (dataOf (formatAt a) (blockOf (formatAt a) bytes parity)) (dataOf (formatAt a) (blockOf (formatAt a) bytes member))) new → once ≡ withBlock (formatAt a) bytes member written
-      → (length moved ≡ (formatAt a .dataLength)) × ((formatAt a .blockLength) * parity + (formatAt a .blockLength) ≤ length once)
-  second-inside parity moved once written h p m e =
-      let room : (formatAt a .blockLength) * parity + (formatAt a .blockLength) ≤ length bytes = rw p (h .parity) in
-      let kept : length once ≡ length bytes = ap length e ∙ length-sets bytes ((formatAt a .blockLength) * member) written in
-      (ap length m ∙ length-moved (formatAt a) parity bytes (dataOf (formatAt a) (blockOf (formatAt a) bytes member)) new room, omega (arith, room, kept))
-
   pub replace-refused : (number : ℕ) → number ≡ replaceRefusal a stripe member (length new) bytes → number ≢ 0 → Replaces number bytes
   replace-refused number e h = (e, rw (← e, ne-eqb number 0 h))
 
@@ -159,31 +129,62 @@ module _ (a : Array) (stripe member : ℕ) (new bytes : List ℕ) where
       bitXor (bitXor (storedGuard (formatAt a) (blockOf (formatAt a) bytes (parityMember a stripe))) (storedGuard (formatAt a) (blockOf (formatAt a) bytes member)))
       (guard (formatAt a) new)
 
-  pub replace-done : (number parity g h : ℕ) (moved once twice : List ℕ) → number ≡ replaceRefusal a stripe member (length new) bytes → number ≡ 0
+  -- it is also the guard of the parity's data, where parities carry no others': both blocks are good, so their guards are those of their data
+  moved-plain : formatAt a .carries ≡ false → Replaceable a stripe member (length new) bytes → ownerRefusal a stripe member ≡ 0
+      → movedGuard ≡ guard (formatAt a) (xors (xors (dataOf (formatAt a) (blockOf (formatAt a) bytes (parityMember a stripe))) (dataOf (formatAt a) (blockOf (formatAt a) bytes member))) new)
+  moved-plain plain r place =
+      let F = formatAt a in
+      let k = parityMember a stripe in
+      let there = inside-whole a stripe member (length new) bytes place r in
+      let of = dataOf F (blockOf F bytes k) in
+      let own = dataOf F (blockOf F bytes member) in
+      let long-of = length-data F (blockOf F bytes k) (length-span (F .blockLength * k) (F .blockLength) bytes (there .parity)) in
+      let long-own = length-data F (blockOf F bytes member) (length-span (F .blockLength * member) (F .blockLength) bytes (there .own)) in
+      ap₂ (λ (x y : ℕ). bitXor (bitXor x y) (guard F new))
+      (good-guard a stripe k (blockOf F bytes k) (own-plain a stripe k plain) (r .parity-good))
+      (good-guard a stripe member (blockOf F bytes member) (own-plain a stripe member plain) (r .own-good))
+      ∙ sym
+      (combines (a .method) plain (xors of own) new (length-xors of own ∙ long-of) (r .size)
+      ∙ ap (λ (x : ℕ). bitXor (bitXor x (guard F new)) (blank F)) (combines (a .method) plain of own long-of long-own)
+      ∙ ap (λ (x : ℕ). bitXor x (blank F)) (xor-swap (bitXor (guard F of) (guard F own)) (blank F) (guard F new))
+      ∙ xor-twice (bitXor (bitXor (guard F of) (guard F own)) (guard F new)) (blank F))
+
+  -- the parity's data and tag are written, then the member's block
+  pub replace-done : (number parity g h : ℕ) (moved half once twice : List ℕ) → ownerRefusal a stripe member ≡ 0 → number ≡ replaceRefusal a stripe member (length new) bytes → number ≡ 0
       → member ≢ parityMember a stripe → parity ≡ parityMember a stripe
       → moved ≡ xors (xors (dataOf (formatAt a) (blockOf (formatAt a) bytes parity)) (dataOf (formatAt a) (blockOf (formatAt a) bytes member))) new
       → g ≡ guard (formatAt a) new
-      → h ≡ cond (formatAt a .carries) (bitXor (bitXor (storedGuard (formatAt a) (blockOf (formatAt a) bytes parity)) (storedGuard (formatAt a) (blockOf (formatAt a) bytes member))) g) (guard (formatAt a) moved)
-      → once ≡ withBlock (formatAt a) bytes member (taggedBy a stripe member g new) → twice ≡ withBlock (formatAt a) once parity (taggedBy a stripe parity h moved)
+      → h ≡ bitXor (bitXor (storedGuard (formatAt a) (blockOf (formatAt a) bytes parity)) (storedGuard (formatAt a) (blockOf (formatAt a) bytes member))) g
+      → half ≡ sets bytes (formatAt a .blockLength * parity) moved
+      → once ≡ sets half (formatAt a .blockLength * parity + formatAt a .dataLength) (tagBytes (formatAt a) (due a stripe parity h))
+      → twice ≡ withBlock (formatAt a) once member (taggedBy a stripe member g new)
       → Replaces 0 twice
   unfolding replaced
-  replace-done number parity g h moved once twice e z apart p m eg eh e₁ e₂ =
+  replace-done number parity g h moved half once twice place e z apart p m eg eh e₁ e₂ e₃ =
       let F = formatAt a in
-      let first : once ≡ withBlock F bytes member (tagged a stripe member movedGuard new) =
-      e₁ ∙ ap (withBlock F bytes member) (tagged-by a stripe member movedGuard g new (eg ∙ sym (guard-own a stripe member movedGuard (guard F new) (own-data a stripe member apart)))) in
-      let second : twice ≡ withBlock F once parity (tagged a stripe parity movedGuard moved) =
-      e₂ ∙ ap (withBlock F once parity) (tagged-by a stripe parity movedGuard h moved (by-case (F .carries) refl)) in
-      (sym z ∙ e, rw (← e, z, second, first, m, p))
+      let r = replaceable a stripe member (length new) bytes (sym e ∙ z) in
+      let there = inside-whole a stripe member (length new) bytes place r in
+      let long : length moved ≡ F .dataLength = ap length m ∙ length-moved F parity bytes (dataOf F (blockOf F bytes member)) new (rw p (there .parity)) in
+      let first : once ≡ withBlock F bytes parity (tagged a stripe parity movedGuard moved) =
+      data-then-tag a stripe parity h bytes half once moved long e₁ e₂ ∙ ap (withBlock F bytes parity) (tagged-by a stripe parity movedGuard h moved (by-case (F .carries) refl)) in
+      let second : twice ≡ withBlock F once member (tagged a stripe member movedGuard new) =
+      e₃ ∙ ap (withBlock F once member) (tagged-by a stripe member movedGuard g new (eg ∙ sym (guard-own a stripe member movedGuard (guard F new) (own-data a stripe member apart)))) in
+      let swapped : twice ≡ withBlock F (withBlock F bytes member (tagged a stripe member movedGuard new)) parity (tagged a stripe parity movedGuard moved) =
+      second ∙ ap (λ (l : List ℕ). withBlock F l member (tagged a stripe member movedGuard new)) first
+      ∙ blocks-swap F bytes parity member (tagged a stripe parity movedGuard moved) (tagged a stripe member movedGuard new)
+      (length-tagged a stripe parity movedGuard moved long) (length-tagged a stripe member movedGuard new (r .size)) (λ q. apart (sym q ∙ p)) in
+      (sym z ∙ e, rw (← e, z, swapped, m, p))
     where
-      carrying : ℕ
-      carrying = bitXor (bitXor (storedGuard (formatAt a) (blockOf (formatAt a) bytes parity)) (storedGuard (formatAt a) (blockOf (formatAt a) bytes member))) g
+      combined : h ≡ movedGuard
+      combined =
+          eh ∙ ap₂ (λ (k x : ℕ). bitXor (bitXor (storedGuard (formatAt a) (blockOf (formatAt a) bytes k)) (storedGuard (formatAt a) (blockOf (formatAt a) bytes member))) x) p eg
 
       by-case : (c : Bool) → formatAt a .carries ≡ c → h ≡ guardDue a stripe parity movedGuard (guard (formatAt a) moved)
-      by-case true c =
-          eh ∙ ap (λ (b : Bool). cond b carrying (guard (formatAt a) moved)) c
-          ∙ ap₂ (λ (k x : ℕ). bitXor (bitXor (storedGuard (formatAt a) (blockOf (formatAt a) bytes k)) (storedGuard (formatAt a) (blockOf (formatAt a) bytes member))) x) p eg
-          ∙ sym (guard-carried a stripe parity movedGuard (guard (formatAt a) moved) (carried-parity a stripe parity c p))
-      by-case false c = eh ∙ ap (λ (b : Bool). cond b carrying (guard (formatAt a) moved)) c ∙ sym (guard-own a stripe parity movedGuard (guard (formatAt a) moved) (own-plain a stripe parity c))
+      by-case true c = combined ∙ sym (guard-carried a stripe parity movedGuard (guard (formatAt a) moved) (carried-parity a stripe parity c p))
+      by-case false c =
+          combined ∙ moved-plain c (replaceable a stripe member (length new) bytes (sym e ∙ z)) place
+          ∙ ap (guard (formatAt a)) (ap (λ (k : ℕ). xors (xors (dataOf (formatAt a) (blockOf (formatAt a) bytes k)) (dataOf (formatAt a) (blockOf (formatAt a) bytes member))) new) (sym p) ∙ sym m)
+          ∙ sym (guard-own a stripe parity movedGuard (guard (formatAt a) moved) (own-plain a stripe parity c))
 
 -- ---- a block of the array
 

@@ -1,17 +1,18 @@
 -- Steps of the code, for the contracts of private functions: no promise of a public call and no theorem rests on these definitions.
 -- Assumes nothing.
 use Prim.Native.Nat.{ℕ}
-use mathlib.Core.Bool.{not, cond}
+use mathlib.Core.Bool.{Bool, not, cond}
 use mathlib.Core.List.{List}
 use lib.Dec.{eqb}
 use lib.ListN.{length}
 use Rattle.layout.specs.Answers.{refuse, after}
 use Rattle.layout.specs.Places.{indexAt, isParity, ownerRefusal}
 use Rattle.layout.specs.declared.Array.{Array}
+use Rattle.format.specs.Formats.{guard}
 use Rattle.tag.specs.Blocks.{formatAt}
 use Rattle.tag.specs.Tags.{standingAt, tagged}
 use Rattle.stripe.specs.Tables.{table, joined, part}
-use Rattle.stripe.specs.Stripes.{stripeLength, blockOf, othersGood}
+use Rattle.stripe.specs.Stripes.{stripeLength, blockOf, othersGood, othersData, guardsFit}
 use Rattle.stripe.specs.Jobs.{guardOfParts}
 
 -- a data member's block, from its part of the data
@@ -32,3 +33,7 @@ unfoldable pub sourcesRefusal : Array → ℕ → ℕ → List ℕ → ℕ
 sourcesRefusal a stripe member bytes =
     after (ownerRefusal a stripe member)
     (refuse (not (eqb (length bytes) (stripeLength a))) 6 (refuse (not (othersGood a stripe member bytes)) 9 0))
+
+-- what the others' data combine to may be taken for what a member lost
+abbrev pub fitting : Array → ℕ → ℕ → List ℕ → Bool
+fitting a stripe member bytes = guardsFit a stripe member bytes (guard (formatAt a) (othersData (formatAt a) (a .members) member bytes))

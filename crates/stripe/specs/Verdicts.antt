@@ -8,10 +8,10 @@ use lib.ListN.{length, getD}
 use Rattle.layout.specs.Answers.{refuse, after, answer}
 use Rattle.layout.specs.Arrays.{stripeRefusal}
 use Rattle.layout.specs.declared.Array.{Array}
-use Rattle.format.specs.Formats.{Format}
+use Rattle.format.specs.Formats.{Format, settled}
 use Rattle.tag.specs.Blocks.{formatAt}
 use Rattle.tag.specs.Tags.{found, expected, standing}
-use Rattle.verdict.specs.Verdicts.{nonzero, saysClean, judged}
+use Rattle.verdict.specs.Verdicts.{nonzero, saysClean, judged, comparedWith}
 use Rattle.stripe.specs.Tables.{table}
 use Rattle.stripe.specs.Stripes.{stripeLength, blockOf, leftOf}
 use Rattle.stripe.specs.Formats.{Summary, summaryOf}
@@ -44,6 +44,11 @@ scrubRefusal a stripe stripeBytes = after (stripeRefusal a stripe) (refuse (not 
 unfoldable pub scrubNumbers : Array → ℕ → List ℕ → List ℕ
 scrubNumbers a stripe bytes =
     answer (scrubRefusal a stripe (length bytes)) (scrubBlocks a stripe (table (a .members) (blockOf (formatAt a) bytes)))
+
+-- ---- the quick scrub of the guards that stand in an array's stripe: what they have to combine to goes by its format and its members
+
+abbrev pub quickOf : Array → List ℕ → List ℕ
+quickOf a guards = comparedWith (settled (formatAt a) (a .members)) guards
 
 -- ---- what a scrub is proved to tell
 

@@ -14,14 +14,16 @@ ghost use mathlib.Core.Path.{_≡_};
 ghost use Prim.Native.Nat.{_+_, _-_, _*_, _≤_, _<_};
 ghost use mathlib.Core.Bool.{true};
 ghost use lib.ListN.{length, getD, set, take};
+ghost use lib.Bits.{bitXor};
 ghost use lib.Seq.{sets};
 ghost use Rattle.stripe.specs.Tables.{span};
 ghost use Rattle.layout.specs.Arrays.{stripeRefusal};
-ghost use Rattle.layout.specs.Places.{ownerRefusal};
-ghost use Rattle.format.specs.Formats.{guard, guardsOf};
+ghost use Rattle.layout.specs.Places.{parityMember, ownerRefusal};
+ghost use Rattle.format.specs.Formats.{guard, guardsOf, settled};
 ghost use Rattle.format.specs.Methods.{formatOf};
 ghost use Rattle.tag.specs.Blocks.{formatAt, dataOf};
-ghost use Rattle.tag.specs.Tags.{standingAt, good, guardDue, taggedBy};
+ghost use Rattle.tag.specs.Tags.{standingAt, good, guardDue, due, tagBytes, taggedBy};
+ghost use Rattle.verdict.specs.Verdicts.{combinedGuards};
 ghost use Rattle.stripe.specs.Stripes.{stripeLength, blockOf, goodMembers, othersGood, othersData, storedGuard, othersGuards, guardsFit};
 ghost use Rattle.stripe.specs.Jobs.{withBlock};
 use copy::put;
@@ -31,6 +33,9 @@ use verdict::combined_wide;
 
 // Bytes of a row: what stays in registers while the members go by.
 const ROW: usize = 128;
+
+// Bytes of a piece: data are whole pieces, and no job has a buffer for more than one.
+const PIECE: usize = 512;
 
 // What a verified read says: the block's own data, data rebuilt from the other members, or the data of a block that is not to be checked.
 pub enum Reading {
@@ -80,33 +85,67 @@ fn row(method: u8, bytes: &[u8], members: usize, skip: usize, at: usize) -> [u8;
     row
 }
 
-// The combined data of all members but `skip`, all of them where there is no such member: one pass over the members, row by row.
-// They are put at the front of `out`.
-fn combined(method: u8, bytes: &[u8], members: usize, skip: usize, out: &mut [u8])
+// The piece from a place on of the combined data of all members but `skip`, all of them where there is no such member: one pass over the
+// members, row by row. It is put into `out`, from another place on.
+fn combined(
+    method: u8,
+    bytes: &[u8],
+    members: usize,
+    skip: usize,
+    from: usize,
+    out: &mut [u8],
+    to: usize,
+)
     requires { ⌜ formatOf method .blockLength * members ≤ length (now bytes) ⌝ }
-    requires { ⌜ formatOf method .dataLength ≤ length (now out) ⌝ }
-    ensures { λ _. ⌜ take (formatOf method .dataLength) (now (out .exit)) ≡ othersData (formatOf method) members skip (now (bytes .entry)) ⌝ }
+    requires { ⌜ from + 512 ≤ formatOf method .dataLength ⌝ }
+    requires { ⌜ to + 512 ≤ length (now out) ⌝ }
+    ensures { λ _. ⌜ now (out .exit) ≡ sets (now (out .entry)) to (span from 512 (othersData (formatOf method) members skip (now (bytes .entry)))) ⌝ }
 {
-    let data = format::data_length(method);
     let mut at: usize = 0;
-    while at < data {
-        let row = row(method, bytes, members, skip, at);
-        put(out, at, &row);
+    while at < PIECE {
+        let row = row(method, bytes, members, skip, from + at);
+        put(out, to + at, &row);
         at += ROW;
     }
 }
 
-// How a member's block stands at its place, by the guard of its data.
-fn standing_by(array: Array, stripe: u64, bytes: &[u8], member: usize, data_guard: u32) -> u8
+// Makes the data of a member in their place, from those of all others, piece by piece.
+fn make_data(method: u8, members: usize, member: usize, bytes: &mut [u8])
+    requires { ⌜ formatOf method .blockLength * members ≤ length (now bytes) ⌝ }
+    requires { ⌜ member < members ⌝ }
+    ensures { λ _. ⌜ now (bytes .exit) ≡ sets (now (bytes .entry)) (formatOf method .blockLength * member) (othersData (formatOf method) members member (now (bytes .entry))) ⌝ }
+{
+    let data = format::data_length(method);
+    let to = block_at(method, member);
+    let mut piece = [0u8; PIECE];
+    let mut from: usize = 0;
+    while from < data {
+        combined(method, bytes, members, member, from, &mut piece, 0);
+        put(bytes, to + from, &piece);
+        from += PIECE;
+    }
+}
+
+// How a member's block stands at its place, by the guard of its data and the member that holds the stripe's parity.
+fn standing_by(
+    array: Array,
+    stripe: u64,
+    parity: usize,
+    bytes: &[u8],
+    member: usize,
+    data_guard: u32,
+) -> u8
     requires { ⌜ ownerRefusal array stripe member ≡ 0 ⌝ }
     requires { ⌜ formatAt array .blockLength * member + formatAt array .blockLength ≤ length (now bytes) ⌝ }
     requires { ⌜ data_guard ≡ guard (formatAt array) (dataOf (formatAt array) (blockOf (formatAt array) (now bytes) member)) ⌝ }
+    requires { ⌜ parity ≡ parityMember array stripe ⌝ }
     ensures { λ r. ⌜ r ≡ standingAt array stripe member (blockOf (formatAt array) (now (bytes .entry)) member) ⌝ }
 {
     let method = array.method;
     let at = block_at(method, member) + format::data_length(method);
     let found = tag::found(method, bytes, at);
-    let expected = tag::expected(array, stripe, member, found, data_guard);
+    let owned = layout::owner_beside(array, stripe, parity, member);
+    let expected = tag::expected_to(array, owned, found, data_guard);
     tag::standing(method, found, expected)
 }
 
@@ -120,7 +159,8 @@ fn standing(array: Array, stripe: u64, bytes: &[u8], member: usize) -> u8
     let from = block_at(method, member);
     let end = from + format::data_length(method);
     let data_guard = format::guard(method, &bytes[from..end]);
-    standing_by(array, stripe, bytes, member, data_guard)
+    let parity = layout::parity_member(array, stripe);
+    standing_by(array, stripe, parity, bytes, member, data_guard)
 }
 
 // Whether a member's block is good at its place.
@@ -136,6 +176,7 @@ fn is_good(array: Array, stripe: u64, bytes: &[u8], member: usize) -> bool
 fn passes(
     array: Array,
     stripe: u64,
+    parity: usize,
     bytes: &[u8],
     skip: usize,
     member: usize,
@@ -144,12 +185,13 @@ fn passes(
     requires { ⌜ ownerRefusal array stripe member ≡ 0 ⌝ }
     requires { ⌜ formatAt array .blockLength * member + formatAt array .blockLength ≤ length (now bytes) ⌝ }
     requires { ⌜ data_guard ≡ guard (formatAt array) (dataOf (formatAt array) (blockOf (formatAt array) (now bytes) member)) ⌝ }
+    requires { ⌜ parity ≡ parityMember array stripe ⌝ }
     ensures { λ r. ⌜ r ≡ getD (set (goodMembers array stripe (now (bytes .entry))) skip true) member true ⌝ }
 {
     if member == skip {
         return true;
     }
-    standing_by(array, stripe, bytes, member, data_guard) == GOOD
+    standing_by(array, stripe, parity, bytes, member, data_guard) == GOOD
 }
 
 // Whether every member but `skip` is good, by the guards of the members' data.
@@ -160,9 +202,10 @@ fn others_good(array: Array, stripe: u64, bytes: &[u8], skip: usize, guards: [u3
     ensures { λ r. ⌜ r ≡ othersGood array stripe skip (now (bytes .entry)) ⌝ }
 {
     let members = array.members;
+    let parity = layout::parity_member(array, stripe);
     let mut member: usize = 0;
     while member < members {
-        if !passes(array, stripe, bytes, skip, member, guards[member]) {
+        if !passes(array, stripe, parity, bytes, skip, member, guards[member]) {
             return false;
         }
         member += 1;
@@ -196,51 +239,58 @@ fn stored_combined(method: u8, bytes: &[u8], members: usize, skip: usize) -> u64
     guards
 }
 
-// What the data made again for a member come with, by the guards of all members' data. Guards of data combine to that of the data; where the
-// parity carries the data members' guards, the others' tell the parity's, and have to fit a data member's.
-fn made(
-    array: Array,
-    stripe: u64,
-    member: usize,
-    bytes: &[u8],
-    guards: [u32; 16],
-    content: &[u8],
-) -> Remade
-    requires { ⌜ ownerRefusal array stripe member ≡ 0 ⌝ }
+// The guard of the data made again for a member, by the guards of all members' data: guards of data combine to that of the data.
+fn plain_guard(method: u8, members: usize, member: usize, guards: [u32; 16]) -> u64
+    requires { ⌜ member < members ⌝ }
+    requires { ⌜ members ≤ 16 ⌝ }
+    ensures { λ r. ⌜ r ≡ bitXor (bitXor (combinedGuards (take members guards)) (getD guards member 0)) (settled (formatOf method) members) ⌝ }
+{
+    let others = combined_wide(&guards[0..members]) ^ guards[member];
+    wide(others ^ format::settled(method, members))
+}
+
+// What the data made again for a member come with, where the parity carries the data members' guards: the others' tell the parity's, and
+// have to fit a data member's.
+fn made(array: Array, stripe: u64, member: usize, bytes: &[u8], content: &[u8]) -> Remade
     requires { ⌜ length (now bytes) ≡ stripeLength array ⌝ }
-    requires { ⌜ guards ≡ guardsOf (formatAt array) 16 (formatAt array .blockLength) (now bytes) ⌝ }
-    requires { ⌜ now content ≡ othersData (formatAt array) (array .members) member (now bytes) ⌝ }
+    requires { ⌜ formatAt array .carries ≡ true ⌝ }
     ensures { λ r. ⌜ r .guard ≡ guardDue array stripe member (othersGuards (formatAt array) (array .members) member (now (bytes .entry))) (guard (formatAt array) (now (content .entry))) ⌝ }
     ensures { λ r. ⌜ r .fits ≡ guardsFit array stripe member (now (bytes .entry)) (guard (formatAt array) (now (content .entry))) ⌝ }
 {
     let method = array.method;
-    let members = array.members;
-    if format::carries(method) {
-        let others = stored_combined(method, bytes, members, member);
-        if member == layout::parity_member(array, stripe) {
-            return Remade {
-                guard: others,
-                fits: true,
-            };
-        }
-        let own = format::guard(method, content) as u64;
+    let others = stored_combined(method, bytes, array.members, member);
+    if member == layout::parity_member(array, stripe) {
         return Remade {
-            guard: own,
-            fits: others == own,
+            guard: others,
+            fits: true,
         };
     }
-    let others = combined_wide(&guards[0..members]) ^ guards[member];
-    let own = wide(others ^ format::settled(method, members));
+    let own = format::guard(method, content) as u64;
     Remade {
         guard: own,
-        fits: true,
+        fits: others == own,
     }
+}
+
+// Writes the tag due to a member's block, with this guard, behind its data.
+fn write_tag(array: Array, stripe: u64, parity: usize, member: usize, guard: u64, bytes: &mut [u8])
+    requires { ⌜ ownerRefusal array stripe member ≡ 0 ⌝ }
+    requires { ⌜ formatAt array .blockLength * member + formatAt array .blockLength ≤ length (now bytes) ⌝ }
+    requires { ⌜ parity ≡ parityMember array stripe ⌝ }
+    ensures { λ _. ⌜ now (bytes .exit) ≡ sets (now (bytes .entry)) (formatAt array .blockLength * member + formatAt array .dataLength) (tagBytes (formatAt array) (due array stripe member guard)) ⌝ }
+{
+    let method = array.method;
+    let to = block_at(method, member) + format::data_length(method);
+    let place = layout::owner_beside(array, stripe, parity, member);
+    let due = tag::due_to(array, place, guard, guard);
+    tag::write(method, due, bytes, to);
 }
 
 // Writes a block at its place: the data, and the tag due there with this guard.
 fn write_block(
     array: Array,
     stripe: u64,
+    parity: usize,
     member: usize,
     content: &[u8],
     guard: u64,
@@ -249,12 +299,10 @@ fn write_block(
     requires { ⌜ ownerRefusal array stripe member ≡ 0 ⌝ }
     requires { ⌜ length (now content) ≡ formatAt array .dataLength ⌝ }
     requires { ⌜ formatAt array .blockLength * member + formatAt array .blockLength ≤ length (now bytes) ⌝ }
+    requires { ⌜ parity ≡ parityMember array stripe ⌝ }
     ensures { λ _. ⌜ now (bytes .exit) ≡ withBlock (formatAt array) (now (bytes .entry)) member (taggedBy array stripe member guard (now (content .entry))) ⌝ }
 {
-    let method = array.method;
-    let from = block_at(method, member);
-    let to = from + format::data_length(method);
-    let due = tag::due(array, stripe, member, guard);
+    let from = block_at(array.method, member);
     put(bytes, from, content);
-    tag::write(method, due, bytes, to);
+    write_tag(array, stripe, parity, member, guard, bytes);
 }

@@ -1,13 +1,13 @@
 // The full scrub of a stripe.
-use format::MOST_DATA;
+use crate::PIECE;
 use layout::Array;
 use verdict::Scrubbed;
 ghost use mathlib.Core.Path.{_≡_};
 ghost use Prim.Native.Nat.{_*_, _≤_};
 ghost use lib.ListN.{length, take};
 ghost use Rattle.format.specs.Methods.{formatOf};
-ghost use Rattle.stripe.specs.Stripes.{storedGuards, leftOf};
-ghost use Rattle.verdict.specs.Verdicts.{scrubbedNumbers};
+ghost use Rattle.stripe.specs.Stripes.{othersData, storedGuards, leftOf};
+ghost use Rattle.verdict.specs.Verdicts.{lowest, nonzero, scrubbedNumbers};
 ghost use Rattle.stripe.specs.Verdicts.{scrubRefusal, scrubNumbers};
 ghost use Rattle.stripe.specs.Steps.{standings};
 
@@ -19,10 +19,11 @@ fn standings(array: Array, stripe: u64, bytes: &[u8]) -> [u8; 16]
     let method = array.method;
     let members = array.members;
     let guards = format::guards(method, bytes, format::block_length(method));
+    let parity = layout::parity_member(array, stripe);
     let mut standing = [0u8; 16];
     let mut member: usize = 0;
     while member < members {
-        standing[member] = crate::standing_by(array, stripe, bytes, member, guards[member]);
+        standing[member] = crate::standing_by(array, stripe, parity, bytes, member, guards[member]);
         member += 1;
     }
     standing
@@ -54,6 +55,25 @@ fn guards_left(method: u8, bytes: &[u8], members: usize) -> u64
     0
 }
 
+// The first place where the members' data do not combine to zero, or their length where there is none, looked for piece by piece.
+fn first_torn(method: u8, bytes: &[u8], members: usize) -> usize
+    requires { ⌜ formatOf method .blockLength * members ≤ length (now bytes) ⌝ }
+    ensures { λ r. ⌜ r ≡ lowest (nonzero (othersData (formatOf method) members members (now (bytes .entry)))) ⌝ }
+{
+    let data = format::data_length(method);
+    let mut piece = [0u8; PIECE];
+    let mut from: usize = 0;
+    while from < data {
+        crate::combined(method, bytes, members, members, from, &mut piece, 0);
+        let place = verdict::first_nonzero(&piece);
+        if place < PIECE {
+            return from + place;
+        }
+        from += PIECE;
+    }
+    from
+}
+
 // The full scrub of a stripe in memory.
 pub fn scrub(array: Array, stripe: u64, bytes: &[u8]) -> Scrubbed
     ensures { λ r. ⌜ scrubbedNumbers r ≡ scrubNumbers array stripe (now (bytes .entry)) ⌝ }
@@ -65,10 +85,9 @@ pub fn scrub(array: Array, stripe: u64, bytes: &[u8]) -> Scrubbed
     let members = array.members;
     let standing = standings(array, stripe, bytes);
     let method = array.method;
-    let size = format::data_length(method);
-    let mut data = [0u8; MOST_DATA];
-    crate::combined(method, bytes, members, members, &mut data);
+    let data = format::data_length(method);
+    let place = first_torn(method, bytes, members);
     let left = guards_left(method, bytes, members);
-    let verdict = verdict::judge(&standing[0..members], &data[0..size], left);
+    let verdict = verdict::judge_at(&standing[0..members], place, data, left);
     Scrubbed::Found(verdict)
 }

@@ -7,15 +7,15 @@ ghost use Rattle.format.specs.Formats.{guardsOf};
 ghost use Rattle.format.specs.Methods.{formatOf};
 ghost use Rattle.tag.specs.Blocks.{formatAt};
 ghost use Rattle.layout.specs.Arrays.{dataMembers, stripeRefusal};
-ghost use Rattle.layout.specs.Places.{ownerRefusal, indexAt, isParity};
+ghost use Rattle.layout.specs.Places.{parityMember, ownerRefusal, indexAt, isParity};
 ghost use Rattle.stripe.specs.Stripes.{stripeLength};
 ghost use Rattle.stripe.specs.Jobs.{withBlock, sealRefusal, sealBytes};
 ghost use Rattle.stripe.specs.Steps.{dataBlock, dataWritten};
 use crate::block_at;
-use crate::combined;
+use crate::make_data;
 use crate::wide;
 use crate::write_block;
-use format::MOST_DATA;
+use crate::write_tag;
 use layout::Array;
 use verdict::combined_wide;
 
@@ -50,6 +50,7 @@ fn seal_refusal(array: Array, stripe: u64, content: usize, length: usize) -> u8
 fn write_member(
     array: Array,
     stripe: u64,
+    parity: usize,
     member: usize,
     content: &[u8],
     data_guard: u32,
@@ -59,18 +60,20 @@ fn write_member(
     requires { ⌜ length (now content) ≡ formatAt array .dataLength * dataMembers array ⌝ }
     requires { ⌜ length (now bytes) ≡ stripeLength array ⌝ }
     requires { ⌜ data_guard ≡ getD (guardsOf (formatAt array) 16 (formatAt array .dataLength) (now content)) (indexAt array stripe member) 0 ⌝ }
+    requires { ⌜ parity ≡ parityMember array stripe ⌝ }
     ensures { λ _. ⌜ now (bytes .exit) ≡ cond (isParity array stripe member) (now (bytes .entry)) (withBlock (formatAt array) (now (bytes .entry)) member (dataBlock array stripe (now (content .entry)) member)) ⌝ }
 {
-    if member == layout::parity_member(array, stripe) {
+    if member == parity {
         return;
     }
-    let index = layout::index_at(array, stripe, member);
+    let index = layout::index_beside(parity, member);
     let method = array.method;
     let from = data_at(method, index);
     let end = from + format::data_length(method);
     write_block(
         array,
         stripe,
+        parity,
         member,
         &content[from..end],
         data_guard as u64,
@@ -87,10 +90,11 @@ fn write_data(array: Array, stripe: u64, content: &[u8], guards: [u32; 16], byte
     ensures { λ _. ⌜ now (bytes .exit) ≡ dataWritten array stripe (now (content .entry)) (now (bytes .entry)) ⌝ }
 {
     let members = array.members;
+    let parity = layout::parity_member(array, stripe);
     let mut member: usize = 0;
     while member < members {
-        let index = layout::index_at(array, stripe, member);
-        write_member(array, stripe, member, content, guards[index], bytes);
+        let index = layout::index_beside(parity, member);
+        write_member(array, stripe, parity, member, content, guards[index], bytes);
         member += 1;
     }
 }
@@ -111,17 +115,9 @@ pub fn seal(array: Array, stripe: u64, content: &[u8], bytes: &mut [u8]) -> u8
     write_data(array, stripe, content, guards, bytes);
     let members = array.members;
     let parity = layout::parity_member(array, stripe);
-    let mut parity_data = [0u8; MOST_DATA];
-    combined(method, bytes, members, parity, &mut parity_data);
+    make_data(method, members, parity, bytes);
     let data_guards = combined_wide(&guards[0..members - 1]);
     let parity_guard = wide(data_guards ^ format::settled(method, members));
-    write_block(
-        array,
-        stripe,
-        parity,
-        &parity_data[0..data],
-        parity_guard,
-        bytes,
-    );
+    write_tag(array, stripe, parity, parity, parity_guard, bytes);
     0
 }

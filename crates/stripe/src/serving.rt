@@ -1,15 +1,18 @@
 // A verified read of one block.
 ghost use mathlib.Core.Path.{_≡_};
-ghost use Prim.Native.Nat.{_+_, _*_};
+ghost use Prim.Native.Nat.{_+_, _*_, _≤_};
 ghost use lib.ListN.{length};
 ghost use mathlib.Core.List.{[], _∷_};
 ghost use Rattle.layout.specs.Answers.{answer};
 ghost use Rattle.layout.specs.Places.{ownerRefusal};
 ghost use Rattle.tag.specs.Blocks.{formatAt};
 ghost use Rattle.tag.specs.Tags.{standingAt, kindOf};
-ghost use mathlib.Core.Bool.{cond};
+ghost use mathlib.Core.Bool.{true, cond};
+ghost use Rattle.format.specs.Methods.{formatOf};
 ghost use Rattle.stripe.specs.Stripes.{stripeLength, blockOf, othersData, recoverable};
 ghost use Rattle.stripe.specs.Jobs.{serveRefusal, servedData, unlessRefused, readNumbers, readingNumbers, readOut};
+ghost use Rattle.stripe.specs.Steps.{fitting};
+use crate::PIECE;
 use crate::Reading;
 use crate::block_at;
 use crate::combined;
@@ -17,10 +20,41 @@ use crate::made;
 use crate::others_good;
 use crate::standing;
 use copy::put;
-use format::MOST_DATA;
 use layout::Array;
 use layout::Placed;
 use tag::UNCHECKED;
+
+// Puts out the combined data of all members but `skip`, piece by piece.
+fn combined_into(method: u8, bytes: &[u8], members: usize, skip: usize, out: &mut [u8])
+    requires { ⌜ formatOf method .blockLength * members ≤ length (now bytes) ⌝ }
+    requires { ⌜ length (now out) ≡ formatOf method .dataLength ⌝ }
+    ensures { λ _. ⌜ now (out .exit) ≡ othersData (formatOf method) members skip (now (bytes .entry)) ⌝ }
+{
+    let mut from: usize = 0;
+    while from < out.len() {
+        combined(method, bytes, members, skip, from, out, from);
+        from += PIECE;
+    }
+}
+
+// Puts out the data made again for a member, where the parity carries the data members' guards and they fit; else nothing. Says whether
+// they do.
+fn carried_into(array: Array, stripe: u64, member: usize, bytes: &[u8], out: &mut [u8]) -> bool
+    requires { ⌜ length (now bytes) ≡ stripeLength array ⌝ }
+    requires { ⌜ length (now out) ≡ formatAt array .dataLength ⌝ }
+    requires { ⌜ formatAt array .carries ≡ true ⌝ }
+    ensures { λ r. ⌜ r ≡ fitting array stripe member (now (bytes .entry)) ⌝ }
+    ensures { λ _. ⌜ now (out .exit) ≡ cond (fitting array stripe member (now (bytes .entry))) (othersData (formatAt array) (array .members) member (now (bytes .entry))) (now (out .entry)) ⌝ }
+{
+    let mut piece = [0u8; PIECE];
+    combined(array.method, bytes, array.members, member, 0, &mut piece, 0);
+    let made = made(array, stripe, member, bytes, &piece);
+    if !made.fits {
+        return false;
+    }
+    put(out, 0, &piece);
+    true
+}
 
 // Puts out the data made again for a member, where the others serve for it; else nothing. Says whether they do.
 fn made_into(array: Array, stripe: u64, member: usize, bytes: &[u8], out: &mut [u8]) -> bool
@@ -36,15 +70,10 @@ fn made_into(array: Array, stripe: u64, member: usize, bytes: &[u8], out: &mut [
     if !others_good(array, stripe, bytes, member, guards) {
         return false;
     }
-    let size = format::data_length(method);
-    let mut content = [0u8; MOST_DATA];
-    combined(method, bytes, members, member, &mut content);
-    let data = &content[0..size];
-    let made = made(array, stripe, member, bytes, guards, data);
-    if !made.fits {
-        return false;
+    if format::carries(method) {
+        return carried_into(array, stripe, member, bytes, out);
     }
-    put(out, 0, data);
+    combined_into(method, bytes, members, member, out);
     true
 }
 

@@ -1,22 +1,25 @@
 // A block's data replaced in its stripe.
 ghost use mathlib.Core.Path.{_≡_};
 ghost use Prim.Native.Nat.{_+_, _*_, _≤_};
-ghost use lib.ListN.{length, take};
+ghost use lib.ListN.{length};
+ghost use lib.Seq.{sets};
+ghost use mathlib.Core.Logic.{_≢_};
+ghost use Rattle.stripe.specs.Tables.{span};
 ghost use Rattle.layout.specs.Places.{isParity, ownerRefusal};
-ghost use mathlib.Core.Bool.{false, cond};
+ghost use mathlib.Core.Bool.{false};
 ghost use lib.Bits.{bitXor};
-ghost use Rattle.format.specs.Formats.{guard};
 ghost use Rattle.stripe.specs.Stripes.{blockOf, storedGuard};
 ghost use Rattle.stripe.specs.Jobs.{replaceRefusal, replaced, unlessRefused, updateRefusal, updateBytes};
 ghost use Rattle.format.specs.Methods.{formatOf};
 ghost use Rattle.tag.specs.Blocks.{dataOf};
 ghost use Rattle.xor.specs.Xors.{xors};
+use crate::PIECE;
 use crate::block_at;
 use crate::is_good;
 use crate::stored_guard;
 use crate::write_block;
+use crate::write_tag;
 use copy::put;
-use format::MOST_DATA;
 use layout::Array;
 use layout::Placed;
 
@@ -43,52 +46,56 @@ fn replace_refusal(array: Array, stripe: u64, member: usize, content: usize, byt
     0
 }
 
-// The parity's data with a member's old data taken out and the new put in.
-// They stand at the front.
-fn moved_parity(
-    method: u8,
+// A piece of the parity's data, the old one of a member's combined with it, and the new one.
+fn moved_piece(
     bytes: &[u8],
     parity: usize,
-    member: usize,
+    old: usize,
     content: &[u8],
-) -> [u8; MOST_DATA]
+    from: usize,
+    piece: &mut [u8],
+)
+    requires { ⌜ parity + 512 ≤ length (now bytes) ⌝ }
+    requires { ⌜ old + 512 ≤ length (now bytes) ⌝ }
+    requires { ⌜ from + 512 ≤ length (now content) ⌝ }
+    requires { ⌜ length (now piece) ≡ 512 ⌝ }
+    ensures { λ _. ⌜ now (piece .exit) ≡ xors (xors (span parity 512 (now (bytes .entry))) (span old 512 (now (bytes .entry)))) (span from 512 (now (content .entry))) ⌝ }
+{
+    let parity_end = parity + PIECE;
+    put(piece, 0, &bytes[parity..parity_end]);
+    let old_end = old + PIECE;
+    xor::xor_into(piece, &bytes[old..old_end]);
+    let end = from + PIECE;
+    xor::xor_into(piece, &content[from..end]);
+}
+
+// The parity's data with a member's old data taken out and the new put in, in their place, piece by piece.
+fn move_parity(method: u8, parity: usize, member: usize, content: &[u8], bytes: &mut [u8])
     requires { ⌜ formatOf method .blockLength * parity + formatOf method .blockLength ≤ length (now bytes) ⌝ }
     requires { ⌜ formatOf method .blockLength * member + formatOf method .blockLength ≤ length (now bytes) ⌝ }
     requires { ⌜ length (now content) ≡ formatOf method .dataLength ⌝ }
-    ensures { λ r. ⌜ take (formatOf method .dataLength) r ≡ xors (xors (dataOf (formatOf method) (blockOf (formatOf method) (now (bytes .entry)) parity)) (dataOf (formatOf method) (blockOf (formatOf method) (now (bytes .entry)) member))) (now (content .entry)) ⌝ }
+    requires { ⌜ member ≢ parity ⌝ }
+    ensures { λ _. ⌜ now (bytes .exit) ≡ sets (now (bytes .entry)) (formatOf method .blockLength * parity) (xors (xors (dataOf (formatOf method) (blockOf (formatOf method) (now (bytes .entry)) parity)) (dataOf (formatOf method) (blockOf (formatOf method) (now (bytes .entry)) member))) (now (content .entry))) ⌝ }
 {
-    let size = format::data_length(method);
-    let mut data = [0u8; MOST_DATA];
-    let from = block_at(method, parity);
-    let end = from + size;
-    put(&mut data, 0, &bytes[from..end]);
+    let to = block_at(method, parity);
     let old = block_at(method, member);
-    let old_end = old + size;
-    xor::xor_into(&mut data, &bytes[old..old_end]);
-    xor::xor_into(&mut data, content);
-    data
+    let mut piece = [0u8; PIECE];
+    let mut from: usize = 0;
+    while from < content.len() {
+        moved_piece(bytes, to + from, old + from, content, from, &mut piece);
+        put(bytes, to + from, &piece);
+        from += PIECE;
+    }
 }
 
-// The guard of the parity that is brought along: what it carries, with the member's old guard taken out and the new put in, or that of its
-// own data.
-fn moved_guard(
-    method: u8,
-    bytes: &[u8],
-    parity: usize,
-    member: usize,
-    data_guard: u64,
-    moved: &[u8],
-) -> u64
+// The guard of the parity that is brought along: the member's old guard taken out, and the new put in. Guards of data combine as the data do,
+// and those that are carried are combined so from the start.
+fn moved_guard(method: u8, bytes: &[u8], parity: usize, member: usize, data_guard: u64) -> u64
     requires { ⌜ formatOf method .blockLength * parity + formatOf method .blockLength ≤ length (now bytes) ⌝ }
     requires { ⌜ formatOf method .blockLength * member + formatOf method .blockLength ≤ length (now bytes) ⌝ }
-    ensures { λ r. ⌜ r ≡ cond (formatOf method .carries) (bitXor (bitXor (storedGuard (formatOf method) (blockOf (formatOf method) (now (bytes .entry)) parity)) (storedGuard (formatOf method) (blockOf (formatOf method) (now (bytes .entry)) member))) data_guard) (guard (formatOf method) (now (moved .entry))) ⌝ }
+    ensures { λ r. ⌜ r ≡ bitXor (bitXor (storedGuard (formatOf method) (blockOf (formatOf method) (now (bytes .entry)) parity)) (storedGuard (formatOf method) (blockOf (formatOf method) (now (bytes .entry)) member))) data_guard ⌝ }
 {
-    if format::carries(method) {
-        return stored_guard(method, bytes, parity)
-            ^ stored_guard(method, bytes, member)
-            ^ data_guard;
-    }
-    format::guard(method, moved) as u64
+    stored_guard(method, bytes, parity) ^ stored_guard(method, bytes, member) ^ data_guard
 }
 
 // Replaces the data of the block at a place, and brings the parity along.
@@ -104,13 +111,11 @@ fn replace(array: Array, stripe: u64, member: usize, content: &[u8], bytes: &mut
     }
     let parity = layout::parity_member(array, stripe);
     let method = array.method;
-    let size = format::data_length(method);
-    let moved = moved_parity(method, bytes, parity, member, content);
     let data_guard = format::guard(method, content) as u64;
-    let parity_data = &moved[0..size];
-    let parity_guard = moved_guard(method, bytes, parity, member, data_guard, parity_data);
-    write_block(array, stripe, member, content, data_guard, bytes);
-    write_block(array, stripe, parity, parity_data, parity_guard, bytes);
+    let parity_guard = moved_guard(method, bytes, parity, member, data_guard);
+    move_parity(method, parity, member, content, bytes);
+    write_tag(array, stripe, parity, parity, parity_guard, bytes);
+    write_block(array, stripe, parity, member, content, data_guard, bytes);
     0
 }
 

@@ -19,14 +19,8 @@ use Rattle.layout.proofs.Bijection.{named-sound}
 use Rattle.layout.proofs.References.{reference-small as reference-fits}
 use Rattle.layout.proofs.Injective.{owned-injective}
 use Rattle.tag.specs.Blocks.{formatAt}
-use Rattle.tag.specs.Tags.{applicationDue, referenceDue, due, dueAt}
-use Rattle.tag.specs.declared.Fields.{Fields}
-
--- the fields due by an owner, as the code has them: the guard of a parity is one, that of every other block another
-abbrev pub dueTo : Array → ℕ → ℕ → Owned → Fields
-dueTo a parity own (Refused number) = record { guard = 0; application = 0; reference = 0 }
-dueTo a parity own (Parity lowest) = record { guard = parity; application = (0x8000 + a .volume) * formatAt a .scale; reference = referenceOf lowest }
-dueTo a parity own (Data block) = record { guard = own; application = a .volume * formatAt a .scale; reference = referenceOf block }
+use Rattle.tag.specs.Tags.{applicationDue, referenceDue, guardDue, due, dueAt, dueTo}
+use Rattle.tag.proofs.Guards.{guard-by-kind, guard-alike}
 
 module _ (a : Array) (stripe member : ℕ) where
   -- ---- the two fields beside the guard fit their bytes
@@ -86,3 +80,10 @@ module _ (a : Array) (stripe member parity own : ℕ) (o : Owned) (told : ownedN
       by-kind (yes e) (no p) =
           ap (dueTo a parity own) (owned-injective o (Data (blockAt a stripe (indexAt a stripe member))) (told ∙ owner-of-data a stripe member e p))
           ∙ sym (due-somewhere a stripe member guard e ∙ ap (due a stripe member) (rw (ne-eqb member (parityMember a stripe) p)) ∙ due-of-data a stripe member own p)
+
+  -- with one guard for both, and with the one that is due where these were found
+  pub due-told : (x : ℕ) → parity ≡ x → own ≡ x → dueTo a parity own o ≡ dueAt a stripe member x
+  due-told x p q = due-by-owner ∙ ap (dueAt a stripe member) (rw (p, q) (guard-alike a stripe member x x))
+
+  pub expected-told : (found : ℕ) → parity ≡ cond (formatAt a .carries) found own → dueTo a parity own o ≡ dueAt a stripe member (guardDue a stripe member found own)
+  expected-told found p = due-by-owner ∙ ap (dueAt a stripe member) (ap (λ (x : ℕ). cond (isParity a stripe member) x own) p ∙ guard-by-kind a stripe member found own)

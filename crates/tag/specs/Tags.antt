@@ -11,6 +11,8 @@ use Rattle.layout.specs.Answers.{refuse, after, answer}
 use Rattle.layout.specs.Arrays.{within}
 use Rattle.layout.specs.Places.{isParity, blockNamed, referenceOf, ownerRefusal}
 use Rattle.layout.specs.declared.Array.{Array}
+use Rattle.layout.specs.declared.Owned.{Owned}
+use Rattle.layout.specs.declared.Owned.the-variants.{Parity, Data, Refused as NoPlace}
 use Rattle.tag.specs.Numbers.{bytesOf, numberOf}
 use Rattle.tag.specs.Blocks.{formatAt, dataOf, tagOf}
 use Rattle.tag.specs.declared.Fields.{Fields}
@@ -68,6 +70,12 @@ due a stripe member guard = record { guard = guard; application = applicationDue
 unfoldable pub dueAt : Array → ℕ → ℕ → ℕ → Fields
 dueAt a stripe member guard =
     cond (eqb (ownerRefusal a stripe member) 0) (due a stripe member guard) (record { guard = 0; application = 0; reference = 0 })
+
+-- the fields due by what lies at a place, to a parity with one guard and to every other block with another
+abbrev pub dueTo : Array → ℕ → ℕ → Owned → Fields
+dueTo a parity own (NoPlace number) = record { guard = 0; application = 0; reference = 0 }
+dueTo a parity own (Parity lowest) = record { guard = parity; application = (0x8000 + a .volume) * formatAt a .scale; reference = referenceOf lowest }
+dueTo a parity own (Data block) = record { guard = own; application = a .volume * formatAt a .scale; reference = referenceOf block }
 
 -- ---- how a block stands at a place: good, bad or unchecked
 

@@ -10,9 +10,8 @@ ghost use lib.Dec.{eqb};
 ghost use lib.ListN.{length, take, drop};
 ghost use lib.Seq.{sets};
 ghost use Rattle.format.specs.Methods.{formatOf};
-ghost use Rattle.layout.specs.Places.{isParity};
 ghost use Rattle.tag.specs.Numbers.{bytesOf, numberOf};
-ghost use Rattle.tag.specs.Tags.{tagWithin, tagWritten, found, dueAt, guardDue, faults, exempt, standing, isBad, told, checkRefusal, checkNumbers, checkedNumbers};
+ghost use Rattle.tag.specs.Tags.{tagWithin, tagWritten, found, dueTo, faults, exempt, standing, isBad, told, checkRefusal, checkNumbers, checkedNumbers};
 
 // What marks a parity block in its application tag, above the volume.
 const PARITY: u16 = 0x8000;
@@ -178,13 +177,12 @@ pub fn write(method: u8, fields: Fields, bytes: &mut [u8], at: usize)
     put_number(bytes, third, half, reference);
 }
 
-// The fields due at a place where a parity's guard is one and every other block's another; zeros where there is no such place.
-fn due_by(array: Array, stripe: u64, member: usize, parity: u64, own: u64) -> Fields
-    ensures { λ r. ⌜ r ≡ dueAt array stripe member (cond (isParity array stripe member) parity own) ⌝ }
+// The fields due by what lies at a place, to a parity with one guard and to every other block with another; zeros where there is no such place.
+pub fn due_to(array: Array, owned: Owned, parity: u64, own: u64) -> Fields
+    ensures { λ r. ⌜ r ≡ dueTo array parity own owned ⌝ }
 {
     let volume = array.volume as u16;
     let method = array.method;
-    let owned = layout::owner(array, stripe, member);
     match owned {
         Owned::Refused(_) => Fields {
             guard: 0,
@@ -212,13 +210,6 @@ fn due_by(array: Array, stripe: u64, member: usize, parity: u64, own: u64) -> Fi
     }
 }
 
-// The fields due at a place, with the guard that is due there; zeros where there is no such place.
-pub fn due(array: Array, stripe: u64, member: usize, guard: u64) -> Fields
-    ensures { λ r. ⌜ r ≡ dueAt array stripe member guard ⌝ }
-{
-    due_by(array, stripe, member, guard, guard)
-}
-
 // The guard due to a parity: the one found, where parities carry the data members' guards and it is not held against its own data; else that
 // of its data.
 fn parity_guard(method: u8, found: u64, own: u64) -> u64
@@ -230,13 +221,13 @@ fn parity_guard(method: u8, found: u64, own: u64) -> u64
     own
 }
 
-// The fields due at a place where these were found, to data of this guard. A carried guard is due as it was found.
-pub fn expected(array: Array, stripe: u64, member: usize, found: Fields, own: u32) -> Fields
-    ensures { λ r. ⌜ r ≡ dueAt array stripe member (guardDue array stripe member (found .guard) own) ⌝ }
+// The fields due by what lies at a place where these were found, to data of this guard. A carried guard is due as it was found.
+pub fn expected_to(array: Array, owned: Owned, found: Fields, own: u32) -> Fields
+    ensures { λ r. ⌜ r ≡ dueTo array (cond (formatOf (array .method) .carries) (found .guard) own) own owned ⌝ }
 {
     let guard = own as u64;
     let parity = parity_guard(array.method, found.guard, guard);
-    due_by(array, stripe, member, parity, guard)
+    due_to(array, owned, parity, guard)
 }
 
 // A number where two differ, 0 where they are the same.
@@ -321,5 +312,6 @@ pub fn check(array: Array, stripe: u64, member: usize, block: &[u8]) -> Checked
     let data = format::data_length(method);
     let guard = format::guard(method, &block[0..data]);
     let found = crate::found(method, block, data);
-    said(method, found, expected(array, stripe, member, found, guard))
+    let owned = layout::owner(array, stripe, member);
+    said(method, found, expected_to(array, owned, found, guard))
 }

@@ -1,19 +1,19 @@
 -- Bytes and one number behind them: where the first is that is not zero. Assumes nothing.
-use mathlib.Core.Path.{_≡_, refl, sym, ap, _∙_}
-use mathlib.Core.Bool.{Bool, true, false, not}
+use mathlib.Core.Path.{_≡_, refl, sym, ap, ap₂, _∙_}
+use mathlib.Core.Bool.{Bool, true, false, not, _||_}
 use mathlib.Core.List.{List, [], _∷_, _++_, map-append}
 use mathlib.Core.Logic.{_≢_, _↔_}
 use Prim.Native.Nat.{ℕ, zero, suc, _+_, _≤_, _<_}
 use native.Mathlib.Nat.{zero-lt-suc, le-of-suc-le-suc, not-suc-le-zero}
 use native.Mathlib.Omega.{arith}
-use borrow.Author.Tests.{eq-eqb, ne-eqb}
-use lib.Dec.{eqb}
+use borrow.Author.Tests.{eq-eqb, ne-eqb, eqb-true, eqb-false, lt-ltb, ltb-true, ltb-false}
+use lib.Dec.{eqb, ltb}
 use lib.ListN.{length, getD, replicate, length-append, length-replicate, getD-replicate, List·getD-append}
 use lib.Seq.{ext-getD, getD-at}
-use Rattle.verdict.specs.Verdicts.{count, lowest, nonzero}
+use Rattle.verdict.specs.Verdicts.{count, lowest, nonzero, judgedAt, judged}
 use Rattle.verdict.specs.Flags.{FirstNonzero}
 use Rattle.verdict.proofs.Flags.{count-append, lowest-inside, lowest-past}
-use Rattle.verdict.proofs.Verdicts.{length-nonzero}
+use Rattle.verdict.proofs.Verdicts.{length-nonzero, no-place}
 
 -- ---- flags and others behind them
 
@@ -66,6 +66,37 @@ module _ (bytes : List ℕ) (left : ℕ) where
   torn-nowhere h none =
       let flags = nonzero bytes in
       ap count (both false (ap not (eq-eqb left 0 none))) ∙ count-append flags (false ∷ []) ∙ omega (arith, lowest-past flags (omega (arith, length-nonzero bytes)))
+
+  -- the verdict from the first place among the bytes
+  pub judged-told : (members : List ℕ) (place : ℕ) → place ≡ lowest (nonzero bytes)
+      → judgedAt members (ltb place (length bytes) || not (eqb left 0)) place ≡ judged members (nonzero all)
+  unfolding judged
+  judged-told members place e = by-tests (ltb place (length bytes)) (eqb left 0) refl refl
+    where
+      torn : (0 < count (nonzero all)) × (lowest (nonzero bytes) ≡ lowest (nonzero all)) → judgedAt members true place ≡ judgedAt members (ltb 0 (count (nonzero all))) (lowest (nonzero all))
+      torn h = ap₂ (judgedAt members) (sym (lt-ltb 0 (count (nonzero all)) (h .0))) (e ∙ h .1)
+
+      by-tests : (f g : Bool) → ltb place (length bytes) ≡ f → eqb left 0 ≡ g
+          → judgedAt members (f || not g) place ≡ judgedAt members (ltb 0 (count (nonzero all))) (lowest (nonzero all))
+      by-tests true g p q = torn (torn-inside (omega (arith, e, ltb-true place (length bytes) p)))
+      by-tests false false p q = torn (torn-behind (omega (arith, e, ltb-false place (length bytes) p)) (eqb-false left 0 q))
+      by-tests false true p q =
+          let none : count (nonzero all) ≡ 0 = torn-nowhere (omega (arith, e, ltb-false place (length bytes) p)) (eqb-true left 0 q) in
+          no-place members place (lowest (nonzero all)) ∙ ap (λ (k : ℕ). judgedAt members (ltb 0 k) (lowest (nonzero all))) (sym none)
+
+-- ---- bytes in two parts
+
+module _ (front back : List ℕ) where
+  parts : nonzero (front ++ back) ≡ nonzero front ++ nonzero back
+  unfolding nonzero
+  parts = map-append (λ (x : ℕ). not (eqb x 0)) front back
+
+  pub first-in-front : lowest (nonzero front) < length front → lowest (nonzero (front ++ back)) ≡ lowest (nonzero front)
+  first-in-front h = ap lowest parts ∙ lowest-of (nonzero front) (nonzero back) (omega (arith, length-nonzero front))
+
+  pub first-in-back : length front ≤ lowest (nonzero front) → lowest (nonzero (front ++ back)) ≡ length front + lowest (nonzero back)
+  first-in-back h =
+      ap lowest parts ∙ lowest-behind (nonzero front) (nonzero back) (omega (arith, length-nonzero front)) ∙ ap (λ (k : ℕ). k + lowest (nonzero back)) (length-nonzero front)
 
 -- ---- zeros, and a zero behind them
 

@@ -3,7 +3,7 @@ use mathlib.Core.Path.{_≡_, refl}
 use mathlib.Core.Bool.{Bool, true, false}
 use mathlib.Core.List.{List, [], _∷_, _++_}
 use lib.ListN.{replicate}
-use Rattle.verdict.specs.Verdicts.{nonzero, standingIn, judged, verdictNumbers, quickRefusal, comparedWith, quickNumbers, comparedNumbers}
+use Rattle.verdict.specs.Verdicts.{nonzero, standingIn, judgedAt, judged, verdictNumbers, quickRefusal, comparedWith, quickNumbers, comparedNumbers}
 use Rattle.verdict.specs.declared.Verdict.the-variants.{Clean, Bad, Torn, Unchecked}
 use Rattle.verdict.specs.QuickWide.{quickWideNumbers, comparedWideNumbers}
 use Rattle.verdict.specs.declared.Compared.the-variants.{Fits, Differs}
@@ -18,7 +18,7 @@ none = false ∷ false ∷ false ∷ []
 pub verdicts : (judged (0 ∷ 0 ∷ 0 ∷ []) none ≡ 0 ∷ 0 ∷ 0 ∷ 0 ∷ []) × (judged (0 ∷ 4 ∷ 3 ∷ []) none ≡ 1 ∷ 1 ∷ 2 ∷ 4 ∷ [])
     × (judged (0 ∷ 0 ∷ 0 ∷ []) (false ∷ false ∷ true ∷ []) ≡ 2 ∷ 2 ∷ 0 ∷ 0 ∷ []) × (judged (8 ∷ 0 ∷ 8 ∷ []) none ≡ 3 ∷ 0 ∷ 2 ∷ 0 ∷ [])
     × (judged (8 ∷ 8 ∷ 7 ∷ []) (true ∷ true ∷ []) ≡ 1 ∷ 2 ∷ 1 ∷ 7 ∷ []) × (judged (0 ∷ 8 ∷ 0 ∷ []) (true ∷ true ∷ []) ≡ 3 ∷ 1 ∷ 1 ∷ 0 ∷ [])
-unfolding judged standingIn
+unfolding judged judgedAt standingIn
 verdicts = (refl, refl, refl, refl, refl, refl)
 
 -- what is left of the guards stands behind three places of data: torn there; at a place of the data before it; clean where nothing is left; and
@@ -27,7 +27,7 @@ pub behind-the-data : (judged (0 ∷ 0 ∷ 0 ∷ []) (nonzero ((0 ∷ 0 ∷ 0 �
     × (judged (0 ∷ 0 ∷ 0 ∷ []) (nonzero ((0 ∷ 9 ∷ 0 ∷ []) ++ (0x8BB7 ∷ []))) ≡ 2 ∷ 1 ∷ 0 ∷ 0 ∷ [])
     × (judged (0 ∷ 0 ∷ 0 ∷ []) (nonzero ((0 ∷ 0 ∷ 0 ∷ []) ++ (0 ∷ []))) ≡ 0 ∷ 0 ∷ 0 ∷ 0 ∷ [])
     × (judged (0 ∷ 8 ∷ 0 ∷ []) (nonzero ((0 ∷ 0 ∷ 0 ∷ []) ++ (0x8BB7 ∷ []))) ≡ 3 ∷ 1 ∷ 1 ∷ 0 ∷ [])
-unfolding judged standingIn nonzero
+unfolding judged judgedAt standingIn nonzero
 behind-the-data = (refl, refl, refl, refl)
 
 pub verdict-names : (verdictNumbers Clean ≡ 0 ∷ 0 ∷ 0 ∷ 0 ∷ []) × (verdictNumbers (Bad 1 2 4) ≡ 1 ∷ 1 ∷ 2 ∷ 4 ∷ []) × (verdictNumbers (Torn 2) ≡ 2 ∷ 2 ∷ 0 ∷ 0 ∷ [])

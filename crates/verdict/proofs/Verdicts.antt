@@ -1,21 +1,60 @@
 -- What a verdict says of flags, exactly, and which bytes are not zero. Assumes nothing.
 use mathlib.Core.Path.{_≡_, refl, sym, ap, ap₂, _∙_, subst}
-use mathlib.Core.Bool.{Bool, true, false, not, cond}
+use mathlib.Core.Bool.{Bool, true, false, not, cond, _||_}
 use mathlib.Core.List.{List, [], _∷_, map}
 use mathlib.Core.Logic.{_≢_, _↔_}
 use Prim.Native.Nat.{ℕ, zero, suc, _≤_, _<_}
 use native.Mathlib.Decide.{ℕ-discrete}
 use native.Mathlib.Nat.{le-of-suc-le-suc, not-suc-le-zero}
 use native.Mathlib.Omega.{arith}
-use borrow.Author.Tests.{ltb-true, ltb-false, lt-ltb, eqb-true, eq-eqb, ne-eqb, not-false}
+use borrow.Author.Tests.{ltb-true, ltb-false, lt-ltb, le-ltb, eqb-true, eq-eqb, ne-eqb, not-false}
 use lib.Dec.{ltb, eqb}
 use lib.ListN.{length, getD, replicate, length-map, length-replicate, getD-replicate, List·getD-map}
 use lib.Seq.{ext-getD}
 use Rattle.layout.specs.Arrays.{within}
 use Rattle.layout.proofs.Ranges.{within-range, range-within}
-use Rattle.verdict.specs.Verdicts.{count, lowest, nonzero, saysClean, saysBad, saysTorn, saysUnchecked, standingIn, bads, uncheckeds, judged}
+use Rattle.verdict.specs.Verdicts.{count, lowest, nonzero, saysClean, saysBad, saysTorn, saysUnchecked, standingIn, bads, uncheckeds, judgedAt, judged}
 use Rattle.verdict.specs.Flags.{NoFlag, First, FirstNonzero}
 use Rattle.verdict.proofs.Flags.{count-none, none-count, lowest-first, first-lowest, first-counted}
+
+-- ---- of members, and a place found
+
+module _ (members : List ℕ) (torn : Bool) (place : ℕ) where
+  pub at-bad : 0 < count (bads members) → judgedAt members torn place ≡ saysBad (lowest (bads members)) (count (bads members)) (getD members (lowest (bads members)) 0)
+  unfolding judgedAt
+  at-bad h = rw (lt-ltb 0 (count (bads members)) h)
+
+  pub at-unchecked : count (bads members) ≡ 0 → 0 < count (uncheckeds members) → judgedAt members torn place ≡ saysUnchecked (lowest (uncheckeds members)) (count (uncheckeds members))
+  unfolding judgedAt
+  at-unchecked e h = rw (e, lt-ltb 0 (count (uncheckeds members)) h)
+
+  pub at-torn : count (bads members) ≡ 0 → count (uncheckeds members) ≡ 0 → torn ≡ true → judgedAt members torn place ≡ saysTorn place
+  unfolding judgedAt
+  at-torn e f h = rw (e, f, h)
+
+  pub at-none : count (bads members) ≡ 0 → count (uncheckeds members) ≡ 0 → torn ≡ false → judgedAt members torn place ≡ saysClean
+  unfolding judgedAt
+  at-none e f h = rw (e, f, h)
+
+-- torn by the place, by what is behind, or not at all
+module _ (place long left : ℕ) where
+  pub torn-by-place : place < long → (ltb place long || not (eqb left 0)) ≡ true
+  torn-by-place h = rw (lt-ltb place long h)
+
+  pub torn-by-left : left ≢ 0 → (ltb place long || not (eqb left 0)) ≡ true
+  torn-by-left some = by-test (ltb place long)
+    where
+      by-test : (f : Bool) → (f || not (eqb left 0)) ≡ true
+      by-test true = refl
+      by-test false = rw (ne-eqb left 0 some)
+
+  pub torn-by-none : long ≤ place → left ≡ 0 → (ltb place long || not (eqb left 0)) ≡ false
+  torn-by-none h none = rw (le-ltb place long h, eq-eqb left 0 none)
+
+-- where nothing is torn no place is said
+pub no-place : (members : List ℕ) (place other : ℕ) → judgedAt members false place ≡ judgedAt members false other
+unfolding judgedAt
+no-place members place other = refl
 
 -- ---- of members and places
 
@@ -33,19 +72,19 @@ module _ (members : List ℕ) (torn : List Bool) where
   -- each of the four, where its tests say so
   pub says-bad : 0 < count (bads members) → judged members torn ≡ saysBad (lowest (bads members)) (count (bads members)) faultsOfLowest
   unfolding judged
-  says-bad h = rw (lt-ltb 0 (count (bads members)) h)
+  says-bad h = at-bad members (ltb 0 (count torn)) (lowest torn) h
 
   pub says-unchecked : count (bads members) ≡ 0 → 0 < count (uncheckeds members) → judged members torn ≡ saysUnchecked (lowest (uncheckeds members)) (count (uncheckeds members))
   unfolding judged
-  says-unchecked e h = rw (e, lt-ltb 0 (count (uncheckeds members)) h)
+  says-unchecked e h = at-unchecked members (ltb 0 (count torn)) (lowest torn) e h
 
   pub says-torn : count (bads members) ≡ 0 → count (uncheckeds members) ≡ 0 → 0 < count torn → judged members torn ≡ saysTorn (lowest torn)
   unfolding judged
-  says-torn e f h = rw (e, f, lt-ltb 0 (count torn) h)
+  says-torn e f h = at-torn members (ltb 0 (count torn)) (lowest torn) e f (lt-ltb 0 (count torn) h)
 
   pub says-clean : count (bads members) ≡ 0 → count (uncheckeds members) ≡ 0 → count torn ≡ 0 → judged members torn ≡ saysClean
   unfolding judged
-  says-clean e f g = rw (e, f, g)
+  says-clean e f g = at-none members (ltb 0 (count torn)) (lowest torn) e f (rw g)
 
   -- what a verdict is, by cases that shut each other out
   pub data Judged : List ℕ → Type 0 where
@@ -55,7 +94,7 @@ module _ (members : List ℕ) (torn : List Bool) where
     of-clean : count (bads members) ≡ 0 → count (uncheckeds members) ≡ 0 → count torn ≡ 0 → Judged saysClean
 
   pub judged-case : Judged (judged members torn)
-  unfolding judged
+  unfolding judged judgedAt
   judged-case = by-tests (ltb 0 (count (bads members))) (ltb 0 (count (uncheckeds members))) (ltb 0 (count torn)) refl refl refl
     where
       by-tests : (b u t : Bool) → ltb 0 (count (bads members)) ≡ b → ltb 0 (count (uncheckeds members)) ≡ u → ltb 0 (count torn) ≡ t → Judged (byTests b u t)

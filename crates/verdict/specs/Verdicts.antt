@@ -54,13 +54,17 @@ bads members = standingIn 1 7 members
 abbrev pub uncheckeds : List ℕ → List Bool
 uncheckeds members = standingIn 8 8 members
 
--- bad, with the lowest bad member, their count and its faults; else unchecked, with the lowest unchecked member and their count; else torn,
--- with the lowest place; else clean
-unfoldable pub judged : List ℕ → List Bool → List ℕ
-judged members torn =
+-- bad, with the lowest bad member, their count and its faults; else unchecked, with the lowest unchecked member and their count; else torn
+-- at this place, if torn; else clean
+unfoldable pub judgedAt : List ℕ → Bool → ℕ → List ℕ
+judgedAt members torn place =
     cond (ltb 0 (count (bads members))) (saysBad (lowest (bads members)) (count (bads members)) (getD members (lowest (bads members)) 0))
     (cond (ltb 0 (count (uncheckeds members))) (saysUnchecked (lowest (uncheckeds members)) (count (uncheckeds members)))
-    (cond (ltb 0 (count torn)) (saysTorn (lowest torn)) saysClean))
+    (cond torn (saysTorn place) saysClean))
+
+-- the same by which places are torn: at the lowest, if any is
+unfoldable pub judged : List ℕ → List Bool → List ℕ
+judged members torn = judgedAt members (ltb 0 (count torn)) (lowest torn)
 
 abbrev pub verdictNumbers : Verdict → List ℕ
 verdictNumbers Clean = saysClean

@@ -6,12 +6,14 @@ ghost use mathlib.Core.Path.{_≡_};
 ghost use mathlib.Core.List.{[], _∷_, _++_};
 ghost use Prim.Native.Nat.{max};
 ghost use Rattle.layout.specs.Arrays.{within};
-ghost use lib.Dec.{eqb};
+ghost use lib.Dec.{eqb, ltb};
+ghost use mathlib.Core.Bool.{not, _||_};
 ghost use Rattle.verdict.specs.Verdicts.{
   count,
   lowest,
   nonzero,
   standingIn,
+  judgedAt,
   judged,
   verdictNumbers,
   combinedGuards,
@@ -93,7 +95,7 @@ fn all_zero(bytes: &[u8]) -> bool
 }
 
 // The first place that is not zero, or the length where there is none.
-fn first_nonzero(bytes: &[u8]) -> usize
+pub fn first_nonzero(bytes: &[u8]) -> usize
     ensures { λ r. ⌜ r ≡ lowest (nonzero (now (bytes .entry))) ⌝ }
 {
     if all_zero(bytes) {
@@ -137,9 +139,10 @@ fn standing_in(least: u8, most: u8, members: &[u8]) -> Alike
     Alike { lowest, count }
 }
 
-// The verdict on a stripe whose members stand so, with such combined data, and behind their last place what is left of the guards in the tags.
-pub fn judge(members: &[u8], combined: &[u8], left: u64) -> Verdict
-    ensures { λ r. ⌜ verdictNumbers r ≡ judged (now (members .entry)) (nonzero (now (combined .entry) ++ (left ∷ []))) ⌝ }
+// The verdict on a stripe whose members stand so, with combined data of this length that are zero below a place, and behind their last place
+// what is left of the guards in the tags.
+pub fn judge_at(members: &[u8], place: usize, length: usize, left: u64) -> Verdict
+    ensures { λ r. ⌜ verdictNumbers r ≡ judgedAt (now (members .entry)) (ltb place length || not (eqb left 0)) place ⌝ }
 {
     let bad = standing_in(LEAST_BAD, MOST_BAD, members);
     let lowest = bad.lowest;
@@ -157,14 +160,21 @@ pub fn judge(members: &[u8], combined: &[u8], left: u64) -> Verdict
             count: unchecked.count,
         };
     }
-    let place = first_nonzero(combined);
-    if place < combined.len() {
+    if place < length {
         return Verdict::Torn { place };
     }
     if left != 0 {
         return Verdict::Torn { place };
     }
     Verdict::Clean
+}
+
+// The same, with the first place that is not zero looked for in the combined data.
+pub fn judge(members: &[u8], combined: &[u8], left: u64) -> Verdict
+    ensures { λ r. ⌜ verdictNumbers r ≡ judged (now (members .entry)) (nonzero (now (combined .entry) ++ (left ∷ []))) ⌝ }
+{
+    let place = first_nonzero(combined);
+    judge_at(members, place, combined.len(), left)
 }
 
 // The exclusive-or of guards.

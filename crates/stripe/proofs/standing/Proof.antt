@@ -30,13 +30,17 @@ part-guard-end c = let F = formatAt (c .before .before .before .args .array) in 
 guard-requires : tie.Need-guard-requires
 guard-requires c κs = search needs
 
+parity-member-requires : tie.Need-parity-member-requires
+parity-member-requires c κs = search needs
+
 standing-by-requires : tie.Need-standing-by-requires
 standing-by-requires c κs =
-    let l = c .before .before in
+    let g = c .before in
+    let l = g .before .before in
     let b = l .before in
     let s = b .before .before in
     let a = s .args in
-    (s .pre .0, (s .pre .1, c .guard .ensures ∙ ap (guard (formatAt (a .array))) (lent-data (formatAt (a .array)) (a .member) (b .block-at .result) (l .data-length .result) (a .bytes .now) (b .block-at .ensures) (l .data-length .ensures))))
+    (s .pre .0, (s .pre .1, (g .guard .ensures ∙ ap (guard (formatAt (a .array))) (lent-data (formatAt (a .array)) (a .member) (b .block-at .result) (l .data-length .result) (a .bytes .now) (b .block-at .ensures) (l .data-length .ensures)), c .parity-member .ensures)))
 
 returns : tie.Need-returns
 returns c = search needs
@@ -52,5 +56,6 @@ standing-spec =
     part-guard-start
     part-guard-end
     guard-requires
+    parity-member-requires
     standing-by-requires
     returns)

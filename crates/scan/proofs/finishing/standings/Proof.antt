@@ -15,19 +15,22 @@ use Rattle.scan.proofs.finishing.standings.Statement.{statement}
 use Rattle.scan.proofs.finishing.standings.Tie as tie
 
 abbrev Inv-loop : tie.InvT-loop
-Inv-loop array stripe values waiting tags members method standing₀ member₀ standing member =
+Inv-loop array stripe values waiting tags members method parity standing₀ member₀ standing member =
     (member ≤ array .members) × (length standing ≡ 16)
     × (take member standing ≡ table member (λ m. heldStanding array stripe m (registerFrom (formatAt array) (getD values m 0) (getD waiting m 0)) tags))
 
 abbrev μ-loop : tie.MeasureT-loop
-μ-loop array stripe values waiting tags members method standing₀ member₀ standing member = members - member
+μ-loop array stripe values waiting tags members method parity standing₀ member₀ standing member = members - member
+
+parity-member-requires : tie.Need-parity-member-requires Inv-loop μ-loop
+parity-member-requires c κs = search needs
 
 loop-holds : tie.Need-loop-holds Inv-loop μ-loop
 loop-holds c = (omega arith, refl, refl)
 
 -- the members are at most sixteen
-few : (c : tie.In-loop Inv-loop μ-loop) → c .before .before .before .before .before .before .args .state .array .members ≤ 16
-few c = let s = c .before .before .before .before .before .before in stripe-sound (s .args .state .array) (s .args .state .stripe) (s .pre) .array .many
+few : (c : tie.In-loop Inv-loop μ-loop) → c .before .before .before .before .before .before .before .args .state .array .members ≤ 16
+few c = let s = c .before .before .before .before .before .before .before in stripe-sound (s .args .state .array) (s .args .state .stripe) (s .pre) .array .many
 
 mul-register-of : tie.Need-mul-register-of Inv-loop μ-loop
 mul-register-of c = omega (arith, few c)
@@ -46,10 +49,11 @@ slice-aggregate-standing c = search needs
 
 standing-requires : tie.Need-standing-requires Inv-loop μ-loop
 standing-requires c κs =
-    let s = c .before .before .before .before .before .before .before .before in
+    let p = c .before .before .before .before in
+    let s = c .before .before .before .before .before .before .before .before .before in
     let a = s .args .state in (
       sound-place (a .array) (a .stripe) (c .before .before .before .loop .member) record { stripe = stripe-sound (a .array) (a .stripe) (s .pre); here = omega arith },
-      search needs,
+      (search needs, p .parity-member .ensures),
     )
 
 array-write-standing : tie.Need-array-write-standing Inv-loop μ-loop
@@ -65,7 +69,7 @@ loop-again : tie.Need-loop-again Inv-loop μ-loop
 loop-again c =
     let r = c .before .before in
     let at = r .before .before .loop in
-    let a = r .before .before .before .before .before .before .before .args .state in
+    let a = r .before .before .before .before .before .before .before .before .args .state in
     let F = formatAt (a .array) in
     let room : at .member < length (at .standing) = omega (arith, few (r .before), at .inv .1) in (
       omega arith,
@@ -77,7 +81,7 @@ loop-again c =
 returns : tie.Need-returns Inv-loop μ-loop
 returns c =
     let at = c .before .loop in
-    held-all (c .before .before .before .before .before .before .args .state) (at .standing) (at .member) (omega (arith, at .inv .0)) (at .inv .2)
+    held-all (c .before .before .before .before .before .before .before .args .state) (at .standing) (at .member) (omega (arith, at .inv .0)) (at .inv .2)
 
 pub standings-spec : {M : Type 1} → statement M
 standings-spec =
@@ -85,6 +89,7 @@ standings-spec =
     (tie.spec
     Inv-loop
     μ-loop
+    parity-member-requires
     loop-holds
     mul-register-of
     array-read-register-of

@@ -18,11 +18,11 @@ use Rattle.stripe.proofs.scrubbing.standings.Statement.{statement}
 use Rattle.stripe.proofs.scrubbing.standings.Tie as tie
 
 abbrev Inv-loop : tie.InvT-loop
-Inv-loop array stripe bytes method members guards standing₀ member₀ how member =
+Inv-loop array stripe bytes method members guards parity standing₀ member₀ how member =
     (member ≤ array .members) × (length how ≡ 16) × (take member how ≡ table member (λ m. standingAt array stripe m (blockOf (formatAt array) bytes m)))
 
 abbrev μ-loop : tie.MeasureT-loop
-μ-loop array stripe bytes method members guards standing₀ member₀ how member = array .members - member
+μ-loop array stripe bytes method members guards parity standing₀ member₀ how member = array .members - member
 
 block-length-requires : tie.Need-block-length-requires Inv-loop μ-loop
 block-length-requires c κs = search needs
@@ -30,13 +30,16 @@ block-length-requires c κs = search needs
 guards-requires : tie.Need-guards-requires Inv-loop μ-loop
 guards-requires c κs = search needs
 
+parity-member-requires : tie.Need-parity-member-requires Inv-loop μ-loop
+parity-member-requires c κs = search needs
+
 loop-holds : tie.Need-loop-holds Inv-loop μ-loop
 loop-holds c = (omega arith, refl, refl)
 
 -- the members are at most sixteen
-few : (c : tie.In-loop Inv-loop μ-loop) → let a = c .before .before .before .before .before .args in a .array .members ≤ 16
+few : (c : tie.In-loop Inv-loop μ-loop) → let a = c .before .before .before .before .before .before .args in a .array .members ≤ 16
 few c =
-    let s = c .before .before .before .before .before in
+    let s = c .before .before .before .before .before .before in
     stripe-sound (s .args .array) (s .args .stripe) (scrub-sound (s .args .array) (s .args .stripe) (length (s .args .bytes .now)) (s .pre) .0) .array .many
 
 mul-standing-by : tie.Need-mul-standing-by Inv-loop μ-loop
@@ -48,7 +51,8 @@ array-read-standing-by c = omega (arith, few c)
 standing-by-requires : tie.Need-standing-by-requires Inv-loop μ-loop
 standing-by-requires c κs =
     let m = c .before .loop .member in
-    let g = c .before .before in
+    let p = c .before .before in
+    let g = p .before in
     let l = g .before in
     let s = l .before .before in
     let a = s .args in
@@ -56,7 +60,10 @@ standing-by-requires c κs =
       member-place (a .array) (a .stripe) (length (a .bytes .now)) m (s .pre) inside,
       (
         member-room (a .array) (a .stripe) (length (a .bytes .now)) m (s .pre) inside,
-        ap (λ (l : List ℕ). getD l m 0) (g .guards .ensures ∙ ap (λ (k : ℕ). guardsOf (formatAt (a .array)) 16 k (a .bytes .now)) (l .block-length .ensures)) ∙ member-guard (formatAt (a .array)) (a .bytes .now) m (omega (arith, few c)),
+        (
+          ap (λ (l : List ℕ). getD l m 0) (g .guards .ensures ∙ ap (λ (k : ℕ). guardsOf (formatAt (a .array)) 16 k (a .bytes .now)) (l .block-length .ensures)) ∙ member-guard (formatAt (a .array)) (a .bytes .now) m (omega (arith, few c)),
+          p .parity-member .ensures,
+        ),
       ),
     )
 
@@ -72,14 +79,14 @@ loop-less c = search needs
 loop-again : tie.Need-loop-again Inv-loop μ-loop
 loop-again c =
     let at = c .before .before .loop in
-    let a = c .before .before .before .before .before .before .args in
+    let a = c .before .before .before .before .before .before .before .args in
     let room : at .member < length (at .standing) = omega (arith, few (c .before), at .inv .1) in
     (omega arith, length-set (at .standing) (at .member) (c .standing-by .result) ∙ at .inv .1, standings-next (a .array) (a .stripe) (a .bytes .now) (at .standing) (at .member) (c .standing-by .result) room (at .inv .2) (c .standing-by .ensures))
 
 returns : tie.Need-returns Inv-loop μ-loop
 returns c =
     let at = c .before .loop in
-    let a = c .before .before .before .before .before .args in
+    let a = c .before .before .before .before .before .before .args in
     standings-all (a .array) (a .stripe) (a .bytes .now) (at .standing) (at .member) (omega (arith, at .inv .0)) (at .inv .2)
 
 pub standings-spec : {M : Type 1} → statement M
@@ -90,6 +97,7 @@ standings-spec =
     μ-loop
     block-length-requires
     guards-requires
+    parity-member-requires
     loop-holds
     mul-standing-by
     array-read-standing-by

@@ -13,6 +13,7 @@ use Rattle.layout.specs.Arrays.{dataMembers}
 use Rattle.layout.specs.Places.{parityMember, indexAt}
 use Rattle.layout.proofs.Ranges.{place-sound}
 use Rattle.layout.proofs.Members.{index-below}
+use Rattle.layout.proofs.Numbers.{index-right}
 use Rattle.tag.specs.Blocks.{formatAt}
 use Rattle.tag.specs.Tags.{tagged}
 use Rattle.tag.proofs.Guards.{own-data, guard-own}
@@ -26,37 +27,40 @@ use borrow.Author.Needs.{needs}
 use Rattle.stripe.proofs.sealing.write_member.Statement.{statement}
 use Rattle.stripe.proofs.sealing.write_member.Tie as tie
 
-parity-member-requires : tie.Need-parity-member-requires
-parity-member-requires c κs = search needs
-
 returns : tie.Need-returns
 returns c =
-    let k = c .before .parity-member in
-    let a = c .before .before .before .before .args in
-    rw (eq-eqb (a .member) (parityMember (a .array) (a .stripe)) (c .if1 .taken ∙ k .ensures))
-
-index-at-requires : tie.Need-index-at-requires
-index-at-requires c κs = search needs
-
--- the member's part is one of the data's
-not-parity : (i : tie.After-index-at) → let a = i .before .before .before .before .before .args in a .member ≢ parityMember (a .array) (a .stripe)
-not-parity i = λ q. i .before .if1 .left (q ∙ sym (i .before .before .parity-member .ensures))
-
-small : (i : tie.After-index-at) → i .index-at .result < dataMembers (i .before .before .before .before .before .args .array)
-small i =
-    let s = i .before .before .before .before .before in
+    let s = c .before .before .before in
     let a = s .args in
-    rw (i .index-at .ensures) (index-below (a .array) (a .stripe) (a .member) (place-sound (a .array) (a .stripe) (a .member) (s .pre .0) .here) (not-parity i))
+    rw (eq-eqb (a .member) (parityMember (a .array) (a .stripe)) (c .if1 .taken ∙ s .pre .1 .1 .1 .1))
 
-many : (i : tie.After-index-at) → i .before .before .before .before .before .args .array .members ≤ 16
-many i = place-sound _ _ _ (i .before .before .before .before .before .pre .0) .stripe .array .many
+index-beside-requires : tie.Need-index-beside-requires
+index-beside-requires c κs = search needs
+
+-- the member's part is one of the data's, that of its index
+not-parity : (i : tie.After-index-beside) → let a = i .before .before .before .before .args in a .member ≢ parityMember (a .array) (a .stripe)
+not-parity i = λ q. i .before .if1 .left (q ∙ sym (i .before .before .before .before .pre .1 .1 .1 .1))
+
+right : (i : tie.After-index-beside) → let a = i .before .before .before .before .args in i .index-beside .result ≡ indexAt (a .array) (a .stripe) (a .member)
+right i =
+    let s = i .before .before .before .before in
+    let a = s .args in
+    i .index-beside .ensures ∙ index-right (a .array) (a .stripe) (a .parity) (a .member) (s .pre .1 .1 .1 .1)
+
+small : (i : tie.After-index-beside) → i .index-beside .result < dataMembers (i .before .before .before .before .args .array)
+small i =
+    let s = i .before .before .before .before in
+    let a = s .args in
+    rw (right i) (index-below (a .array) (a .stripe) (a .member) (place-sound (a .array) (a .stripe) (a .member) (s .pre .0) .here) (not-parity i))
+
+many : (i : tie.After-index-beside) → i .before .before .before .before .args .array .members ≤ 16
+many i = place-sound _ _ _ (i .before .before .before .before .pre .0) .stripe .array .many
 
 -- and lies within them
-inside : (i : tie.After-index-at) → let a = i .before .before .before .before .before .args in
-    formatAt (a .array) .dataLength * i .index-at .result + formatAt (a .array) .dataLength ≤ length (a .content .now)
+inside : (i : tie.After-index-beside) → let a = i .before .before .before .before .args in
+    formatAt (a .array) .dataLength * i .index-beside .result + formatAt (a .array) .dataLength ≤ length (a .content .now)
 inside i =
-    let s = i .before .before .before .before .before in
-    omega (arith, s .pre .1 .0, times-next (formatAt (s .args .array) .dataLength) (i .index-at .result) (dataMembers (s .args .array)) (small i))
+    let s = i .before .before .before .before in
+    omega (arith, s .pre .1 .0, times-next (formatAt (s .args .array) .dataLength) (i .index-beside .result) (dataMembers (s .args .array)) (small i))
 
 data-at-requires : tie.Need-data-at-requires
 data-at-requires c κs = omega (arith, inside c)
@@ -81,15 +85,15 @@ write-block-requires c κs =
     let d = c .before .before in
     let f = d .before in
     let i = f .before in
-    let s = i .before .before .before .before .before in
+    let s = i .before .before .before .before in
     let a = s .args in
     let F = formatAt (a .array) in
     let here = inside i in
     let lent = lent-span (f .data-at .result) (d .data-length .result) (a .content .now) ∙ ap₂ (λ (k n : ℕ). span k n (a .content .now)) (f .data-at .ensures) (d .data-length .ensures) in (
       s .pre .0,
       (
-        ap length lent ∙ length-span (F .dataLength * i .index-at .result) (F .dataLength) (a .content .now) here,
-        block-room (a .array) (a .stripe) (a .member) (s .pre .0) (a .bytes .now) (s .pre .1 .1 .0),
+        ap length lent ∙ length-span (F .dataLength * i .index-beside .result) (F .dataLength) (a .content .now) here,
+        (block-room (a .array) (a .stripe) (a .member) (s .pre .0) (a .bytes .now) (s .pre .1 .1 .0), s .pre .1 .1 .1 .1),
       ),
     )
 
@@ -101,27 +105,26 @@ returns-2 c =
     let d = c .before .before .before .before .before in
     let f = d .before in
     let i = f .before in
-    let s = i .before .before .before .before .before in
+    let s = i .before .before .before .before in
     let a = s .args in
     let F = formatAt (a .array) in
     let lent = lent-span (f .data-at .result) (d .data-length .result) (a .content .now) ∙ ap₂ (λ (k n : ℕ). span k n (a .content .now)) (f .data-at .ensures) (d .data-length .ensures) in
     let parts = guardOfParts (a .array) (a .content .now) in
-    let right = s .pre .1 .1 .1 ∙ ap (λ (k : ℕ). getD (guardsOf F 16 (F .dataLength) (a .content .now)) k 0) (sym (i .index-at .ensures))
-    ∙ part-guard F (a .content .now) (i .index-at .result) (omega (arith, small i, many i)) ∙ ap (guard F) (sym lent) in
+    let own = s .pre .1 .1 .1 .0 ∙ ap (λ (k : ℕ). getD (guardsOf F 16 (F .dataLength) (a .content .now)) k 0) (sym (right i))
+    ∙ part-guard F (a .content .now) (i .index-beside .result) (omega (arith, small i, many i)) ∙ ap (guard F) (sym lent) in
     rw (ne-eqb (a .member) (parityMember (a .array) (a .stripe)) (not-parity i))
     (c .before .before .write-block .ensures
     ∙ ap (withBlock F (a .bytes .now) (a .member))
-    (tagged-by (a .array) (a .stripe) (a .member) parts (a .data-guard) _ (right ∙ sym (guard-own (a .array) (a .stripe) (a .member) parts _ (own-data (a .array) (a .stripe) (a .member) (not-parity i)))))
+    (tagged-by (a .array) (a .stripe) (a .member) parts (a .data-guard) _ (own ∙ sym (guard-own (a .array) (a .stripe) (a .member) parts _ (own-data (a .array) (a .stripe) (a .member) (not-parity i)))))
     ∙ ap (λ (l : List ℕ). withBlock F (a .bytes .now) (a .member) (tagged (a .array) (a .stripe) (a .member) parts l))
-    (lent ∙ ap (part (F .dataLength) (a .content .now)) (i .index-at .ensures)))
+    (lent ∙ ap (part (F .dataLength) (a .content .now)) (right i)))
 
 pub write-member-spec : {M : Type 1} → statement M
 write-member-spec =
     tie.close
     (tie.spec
-    parity-member-requires
     returns
-    index-at-requires
+    index-beside-requires
     data-at-requires
     data-length-requires
     add-end

@@ -1,15 +1,16 @@
 -- `stripe::updating::replace` meets its contract.
 -- Assumes nothing.
-use mathlib.Core.Path.{sym, ap, _∙_}
-use Prim.Native.Nat.{_-_}
+use mathlib.Core.Path.{_≡_, refl, sym, ap, _∙_}
+use Prim.Native.Nat.{_+_, _*_, _≤_}
 use native.Mathlib.Omega.{arith}
 use borrow.Author.Tests.{eqb-false}
-use lib.ListN.{length, take}
+use lib.ListN.{length}
+use lib.Seq.{length-sets}
 use Rattle.layout.specs.Places.{parityMember, ownerRefusal}
 use Rattle.tag.specs.Blocks.{formatAt}
-use Rattle.tag.specs.Tags.{taggedBy}
-use Rattle.stripe.proofs.Fronts.{lent-front}
-use Rattle.stripe.proofs.Updates.{parity-sound, inside, second-inside, replace-refused, replace-done}
+use Rattle.tag.specs.Tags.{due, tagBytes}
+use Rattle.stripe.proofs.Pieces.{moved}
+use Rattle.stripe.proofs.Updates.{parity-sound, Inside, inside, replace-refused, replace-done}
 use borrow.Author.Needs.{needs}
 use Rattle.stripe.proofs.updating.replace.Statement.{statement}
 use Rattle.stripe.proofs.updating.replace.Tie as tie
@@ -26,21 +27,15 @@ returns c =
     let a = r .before .before .before .before .args in
     replace-refused (a .array) (a .stripe) (a .member) (a .content .now) (a .bytes .now) (r .replace-refusal .result) (r .replace-refusal .ensures) (c .if1 .taken)
 
+-- both blocks lie in the stripe
+rooms : (z : tie.Else1) → let a = z .before .before .before .before .before .args in Inside (a .array) (a .stripe) (a .member) (length (a .content .now)) (a .bytes .now)
+rooms z =
+    let s = z .before .before .before .before .before in
+    let a = s .args in
+    inside (a .array) (a .stripe) (a .member) (length (a .content .now)) (a .bytes .now) (s .pre .0) (sym (z .before .replace-refusal .ensures) ∙ z .if1 .left)
+
 parity-member-requires : tie.Need-parity-member-requires
 parity-member-requires c κs = search needs
-
-data-length-requires : tie.Need-data-length-requires
-data-length-requires c κs = search needs
-
-moved-parity-requires : tie.Need-moved-parity-requires
-moved-parity-requires c κs =
-    let p = c .before .before in
-    let z = p .before in
-    let r = z .before in
-    let s = r .before .before .before .before in
-    let a = s .args in
-    let h = inside (a .array) (a .stripe) (a .member) (length (a .content .now)) (a .bytes .now) (s .pre .0) (sym (r .replace-refusal .ensures) ∙ z .if1 .left) in
-    (rw (p .parity-member .ensures) (h .parity), (h .own, h .size))
 
 guard-requires : tie.Need-guard-requires
 guard-requires c κs = search needs
@@ -48,56 +43,52 @@ guard-requires c κs = search needs
 cast-data-guard : tie.Need-cast-data-guard
 cast-data-guard c = search needs
 
-sub-parity-data : tie.Need-sub-parity-data
-sub-parity-data c = search needs
-
-part-parity-data-start : tie.Need-part-parity-data-start
-part-parity-data-start c = search needs
-
-part-parity-data-end : tie.Need-part-parity-data-end
-part-parity-data-end c =
-    let d = c .before .before .before .before in
-    let F = formatAt (d .before .before .before .before .before .before .before .args .array) in
-    omega (arith, F .data-most, d .data-length .ensures)
-
 moved-guard-requires : tie.Need-moved-guard-requires
 moved-guard-requires c κs =
-    let p = c .before .before .before .before .before .before .before in
-    let z = p .before in
-    let r = z .before in
-    let s = r .before .before .before .before in
-    let a = s .args in
-    let h = inside (a .array) (a .stripe) (a .member) (length (a .content .now)) (a .bytes .now) (s .pre .0) (sym (r .replace-refusal .ensures) ∙ z .if1 .left) in
+    let p = c .before .before in
+    let h = rooms (p .before) in
     (rw (p .parity-member .ensures) (h .parity), h .own)
+
+move-parity-requires : tie.Need-move-parity-requires
+move-parity-requires c κs =
+    let p = c .before .before .before .before in
+    let s = p .before .before .before .before .before .before in
+    let a = s .args in
+    let h = rooms (p .before) in
+    (rw (p .parity-member .ensures) (h .parity), (h .own, (h .size, λ e. eqb-false (a .member) (parityMember (a .array) (a .stripe)) (s .pre .1) (e ∙ p .parity-member .ensures))))
+
+-- the stripe is as long as it was
+as-long : (v : tie.After-move-parity) → length (v .move-parity .last .1 .1 .1 .1 .0) ≡ length (v .before .before .before .before .before .before .before .before .before .before .before .args .bytes .now)
+as-long v =
+    let p = v .before .before .before .before .before in
+    let a = p .before .before .before .before .before .before .args in
+    let F = formatAt (a .array) in
+    ap length (v .move-parity .ensures) ∙ length-sets (a .bytes .now) (F .blockLength * p .parity-member .result) (moved F (p .parity-member .result) (a .member) (a .bytes .now) (a .content .now))
+
+write-tag-requires : tie.Need-write-tag-requires
+write-tag-requires c κs =
+    let v = c .before .before .before in
+    let p = v .before .before .before .before .before in
+    let s = p .before .before .before .before .before .before in
+    let a = s .args in
+    let F = formatAt (a .array) in
+    let room : F .blockLength * p .parity-member .result + F .blockLength ≤ length (a .bytes .now) = rw (p .parity-member .ensures) (rooms (p .before) .parity) in
+    let kept = as-long v in
+    (ap (ownerRefusal (a .array) (a .stripe)) (p .parity-member .ensures) ∙ parity-sound (a .array) (a .stripe) (a .member) (s .pre .0), (omega (arith, kept, room), p .parity-member .ensures))
 
 write-block-requires : tie.Need-write-block-requires
 write-block-requires c κs =
-    let p = c .before .before .before .before .before .before .before .before .before in
-    let z = p .before in
-    let r = z .before in
-    let s = r .before .before .before .before in
-    let a = s .args in
-    let h = inside (a .array) (a .stripe) (a .member) (length (a .content .now)) (a .bytes .now) (s .pre .0) (sym (r .replace-refusal .ensures) ∙ z .if1 .left) in
-    (s .pre .0, (h .size, h .own))
-
-write-block-requires-2 : tie.Need-write-block-requires-2
-write-block-requires-2 c κs =
     let w = c .before .before .before in
-    let g = c .before .before .before .before .before .before .before .before .before in
-    let v = g .before in
-    let d = c .before .before .before .before .before .before .before .before .before .before .before .before in
-    let p = d .before in
-    let z = p .before in
-    let r = z .before in
-    let s = r .before .before .before .before in
+    let v = w .before .before .before .before in
+    let p = v .before .before .before .before .before in
+    let s = p .before .before .before .before .before .before in
+    let h = rooms (p .before) in
     let a = s .args in
     let F = formatAt (a .array) in
-    let h = inside (a .array) (a .stripe) (a .member) (length (a .content .now)) (a .bytes .now) (s .pre .0) (sym (r .replace-refusal .ensures) ∙ z .if1 .left) in
-    let moved = take (d .data-length .result - 0) (v .moved-parity .result) in
-    let same = lent-front _ (v .moved-parity .result) (d .data-length .result) (F .dataLength) (d .data-length .ensures) (v .moved-parity .ensures) in
-    let second = second-inside (a .array) (a .stripe) (a .member) (a .content .now) (a .bytes .now) (p .parity-member .result) moved (w .write-block .last .1 .1 .1 .1 .1 .0) (taggedBy (a .array) (a .stripe) (a .member) (g .guard .result) (a .content .now)) h
-    (p .parity-member .ensures) same (w .write-block .ensures) in
-    (ap (ownerRefusal (a .array) (a .stripe)) (p .parity-member .ensures) ∙ parity-sound (a .array) (a .stripe) (a .member) (s .pre .0), (second .0, second .1))
+    let parity = p .parity-member .result in
+    let tag = tagBytes F (due (a .array) (a .stripe) parity (v .before .before .moved-guard .result)) in
+    let kept = ap length (w .write-tag .ensures) ∙ length-sets (v .move-parity .last .1 .1 .1 .1 .0) (F .blockLength * parity + F .dataLength) tag ∙ as-long v in
+    (s .pre .0, (h .size, (omega (arith, kept, h .own), p .parity-member .ensures)))
 
 same-length-2 : tie.Need-same-length-2
 same-length-2 c = search needs
@@ -105,22 +96,19 @@ same-length-2 c = search needs
 returns-2 : tie.Need-returns-2
 returns-2 c =
     let u = c .before .before in
-    let w = c .before .before .before .before .before .before in
-    let k = c .before .before .before .before .before .before .before .before in
-    let g = c .before .before .before .before .before .before .before .before .before .before .before .before in
-    let v = c .before .before .before .before .before .before .before .before .before .before .before .before .before in
-    let d = c .before .before .before .before .before .before .before .before .before .before .before .before .before .before .before in
-    let p = d .before in
+    let w = u .before .before .before .before in
+    let v = w .before .before .before .before in
+    let k = v .before .before in
+    let g = k .before .before in
+    let p = g .before in
     let z = p .before in
     let r = z .before in
     let s = r .before .before .before .before in
     let a = s .args in
-    let F = formatAt (a .array) in
-    let moved = take (d .data-length .result - 0) (v .moved-parity .result) in
-    let same = lent-front _ (v .moved-parity .result) (d .data-length .result) (F .dataLength) (d .data-length .ensures) (v .moved-parity .ensures) in
-    replace-done (a .array) (a .stripe) (a .member) (a .content .now) (a .bytes .now) (r .replace-refusal .result) (p .parity-member .result) (g .guard .result) (k .moved-guard .result) moved
-    (w .write-block .last .1 .1 .1 .1 .1 .0) (u .write-block2 .last .1 .1 .1 .1 .1 .0) (r .replace-refusal .ensures) (z .if1 .left)
-    (eqb-false (a .member) (parityMember (a .array) (a .stripe)) (s .pre .1)) (p .parity-member .ensures) same (g .guard .ensures) (k .moved-guard .ensures) (w .write-block .ensures) (u .write-block2 .ensures)
+    replace-done (a .array) (a .stripe) (a .member) (a .content .now) (a .bytes .now) (r .replace-refusal .result) (p .parity-member .result) (g .guard .result) (k .moved-guard .result) _
+    (v .move-parity .last .1 .1 .1 .1 .0) (w .write-tag .last .1 .1 .1 .1 .1 .0) (u .write-block .last .1 .1 .1 .1 .1 .1 .0) (s .pre .0) (r .replace-refusal .ensures) (z .if1 .left)
+    (eqb-false (a .member) (parityMember (a .array) (a .stripe)) (s .pre .1)) (p .parity-member .ensures) refl (g .guard .ensures) (k .moved-guard .ensures)
+    (v .move-parity .ensures) (w .write-tag .ensures) (u .write-block .ensures)
 
 pub replace-spec : {M : Type 1} → statement M
 replace-spec =
@@ -130,15 +118,11 @@ replace-spec =
     same-length
     returns
     parity-member-requires
-    data-length-requires
-    moved-parity-requires
     guard-requires
     cast-data-guard
-    sub-parity-data
-    part-parity-data-start
-    part-parity-data-end
     moved-guard-requires
+    move-parity-requires
+    write-tag-requires
     write-block-requires
-    write-block-requires-2
     same-length-2
     returns-2)

@@ -1,19 +1,13 @@
--- `tag::due_by` meets its contract.
--- Assumes nothing.
+-- `tag::due_to` meets its contract: kind by kind. Assumes nothing.
 use mathlib.Core.Path.{sym, ap, ap₂, _∙_}
 use Prim.Native.Nat.{ℕ}
-use Rattle.layout.specs.Places.{ownedNumbers}
-use Rattle.layout.specs.declared.Owned.the-variants.{Refused, Parity, Data}
-use Rattle.tag.proofs.Owed.{due-by-owner}
+use Rattle.tag.specs.Tags.{dueTo}
 use borrow.Author.Needs.{needs}
-use Rattle.tag.proofs.due_by.Statement.{statement}
-use Rattle.tag.proofs.due_by.Tie as tie
+use Rattle.tag.proofs.due_to.Statement.{statement}
+use Rattle.tag.proofs.due_to.Tie as tie
 
 cast-volume : tie.Need-cast-volume
 cast-volume c = search needs
-
-owner-requires : tie.Need-owner-requires
-owner-requires c κs = search needs
 
 enum-told : tie.Need-enum-told
 enum-told c = search needs
@@ -41,31 +35,28 @@ reference-requires-2 c κs = search needs
 
 returns : tie.Need-returns
 returns c =
-    let told = ap ownedNumbers (sym (c .enum-told .given .1)) ∙ c .before .before .owner .ensures in
-    due-by-owner _ _ _ (c .before .before .before .before .args .parity) (c .before .before .before .before .args .own) (Refused _) told
+    let a = c .before .before .before .args in
+    ap (dueTo (a .array) (a .parity) (a .own)) (sym (c .enum-told .given .1))
 
 returns-2 : tie.Need-returns-2
 returns-2 c =
     let o = c .before .before .before in
-    let a = o .before .before .before .before .args in
-    let told = ap ownedNumbers (sym (o .owned .given .1)) ∙ o .before .before .owner .ensures in
+    let a = o .before .before .before .args in
     ap₂ (λ (x y : ℕ). record { guard = a .parity; application = x; reference = y }) (c .before .scaled .ensures) (c .reference .ensures)
-    ∙ due-by-owner _ _ _ (a .parity) (a .own) (Parity _) told
+    ∙ ap (dueTo (a .array) (a .parity) (a .own)) (sym (o .owned .given .1))
 
 returns-3 : tie.Need-returns-3
 returns-3 c =
     let o = c .before .before .before in
-    let a = o .before .before .before .before .args in
-    let told = ap ownedNumbers (sym (o .owned2 .given .1)) ∙ o .before .before .owner .ensures in
+    let a = o .before .before .before .args in
     ap₂ (λ (x y : ℕ). record { guard = a .own; application = x; reference = y }) (c .before .scaled2 .ensures) (c .reference2 .ensures)
-    ∙ due-by-owner _ _ _ (a .parity) (a .own) (Data _) told
+    ∙ ap (dueTo (a .array) (a .parity) (a .own)) (sym (o .owned2 .given .1))
 
-pub due-by-spec : {M : Type 1} → statement M
-due-by-spec =
+pub due-to-spec : {M : Type 1} → statement M
+due-to-spec =
     tie.close
     (tie.spec
     cast-volume
-    owner-requires
     enum-told
     enum-known-owned
     add-scaled
