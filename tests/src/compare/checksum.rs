@@ -1,7 +1,7 @@
 //! The checksum on runs of many lengths, refused on odd ones, and the one change of a word that it does not notice.
 
+use super::runs::{ALIGNMENTS, Kind};
 use super::{Outcome, known, refusal};
-use crate::lent::Lent;
 use crate::library::{self, Sum};
 use crate::random::Random;
 use model::checksum::{self, START, checksum};
@@ -10,7 +10,6 @@ const LONGEST: usize = 2_100;
 const BLOCK: usize = 512;
 const SHORT: usize = 64;
 const RANDOM: usize = 80_000;
-const ALIGNMENTS: usize = 64;
 
 /// Words at which a carry comes or stays out.
 const EDGES: [u16; 8] = [
@@ -35,60 +34,16 @@ fn by_bytes(bytes: &[u8]) -> Option<u16> {
     sum.waiting.is_none().then_some(sum.value)
 }
 
-/// One input: counted, or the difference. An odd length is refused, and no checksum is zero.
-fn same(what: &str, bytes: &[u8], count: &mut u64) -> Outcome<()> {
-    let model = numbers(bytes);
-    let at_odds = match by_bytes(bytes) {
-        Some(sum) => model.refusal != 0 || model.guard != u32::from(sum) || sum == 0,
-        None => model.refusal != 6 || model.guard != 0,
-    };
-    let length = bytes.len();
-    if at_odds {
-        return Err(format!(
-            "{what}, {length} bytes: the model is at odds with itself"
-        ));
-    }
-    let lent = Lent::new(bytes);
-    let library = library::checksum(&lent);
-    lent.kept(what)?;
-    if model != library {
-        return Err(format!(
-            "{what}, {length} bytes: the model has {model:X?}, the library {library:X?}"
-        ));
-    }
-    *count += 1;
-    Ok(())
-}
-
-/// Each run of `length` bytes that has a single bit.
-fn single_bits(length: usize, count: &mut u64) -> Outcome<()> {
-    let mut bytes = vec![0; length];
-    for bit in 0..8 * length {
-        bytes[bit / 8] = 0x80 >> (bit % 8);
-        same(&format!("only bit {bit} set"), &bytes, count)?;
-        bytes[bit / 8] = 0;
-    }
-    Ok(())
-}
-
-/// Every length at every place within sixty-four bytes.
-fn aligned(random: &mut Random, count: &mut u64) -> Outcome<()> {
-    let bytes = random.bytes(LONGEST + 2 * ALIGNMENTS);
-    let from = bytes.as_ptr().align_offset(ALIGNMENTS);
-    for alignment in 0..ALIGNMENTS {
-        for length in 0..=LONGEST {
-            let run = &bytes[from + alignment..][..length];
-            let (model, library) = (numbers(run), library::checksum_at(run));
-            if model != library {
-                return Err(format!(
-                    "{length} bytes, {alignment} past a multiple of {ALIGNMENTS}: the model has {model:X?}, the library {library:X?}"
-                ));
-            }
-            *count += 1;
-        }
-    }
-    Ok(())
-}
+/// An odd length is refused, and no checksum is zero.
+const SUM: Kind<Sum> = Kind {
+    model: numbers,
+    sound: |bytes, model| match by_bytes(bytes) {
+        Some(sum) => model.refusal == 0 && model.guard == u32::from(sum) && sum != 0,
+        None => model.refusal == 6 && model.guard == 0,
+    },
+    lent: library::checksum,
+    in_place: library::checksum_at,
+};
 
 /// A word of a block changed: the checksum changes too, but for 0000h made FFFFh and back.
 fn changed_word(
@@ -137,31 +92,23 @@ fn changed_words(random: &mut Random, count: &mut u64) -> Outcome<()> {
 }
 
 pub fn compare(random: &mut Random) -> Outcome<String> {
-    let zeros = [0x00; LONGEST];
-    let ones = [0xFF; LONGEST];
-    let mut bytes = [0; LONGEST];
     let (mut each, mut single, mut mixed, mut anywhere, mut words) = (0, 0, 0, 0, 0);
-    for length in 0..=LONGEST {
-        same("all 00", &zeros[..length], &mut each)?;
-        same("all FF", &ones[..length], &mut each)?;
-        random.fill(&mut bytes[..length]);
-        same("random", &bytes[..length], &mut each)?;
+    SUM.each_length(LONGEST, random, &mut each)?;
+    for length in (0..=SHORT).chain([BLOCK]) {
+        SUM.single_bits(length, &mut single)?;
     }
-    for length in 0..=SHORT {
-        single_bits(length, &mut single)?;
-    }
-    single_bits(BLOCK, &mut single)?;
     for _ in 0..RANDOM {
         let length = random.below(LONGEST + 1);
-        random.fill(&mut bytes[..length]);
+        let mut bytes = random.bytes(length);
         if random.one_in(2) {
             for word in bytes.chunks_exact_mut(2) {
                 word.copy_from_slice(&random.pick(&EDGES).to_be_bytes());
             }
         }
-        same("random", &bytes[..length], &mut mixed)?;
+        SUM.same("random", &bytes, &mut mixed)?;
     }
-    aligned(random, &mut anywhere)?;
+    let every = |_: &mut Random| (0..=LONGEST).collect();
+    SUM.aligned(LONGEST, every, random, &mut anywhere)?;
     changed_words(random, &mut words)?;
     Ok(format!(
         "{} inputs alike, those of odd lengths refused: {each} at every length from 0 to {LONGEST} (all 00, all FF, random), \

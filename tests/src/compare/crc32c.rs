@@ -1,5 +1,6 @@
 //! CRC-32C on runs of many lengths, what it notices in a block, and the quick scrub of its guards.
 
+use super::runs::{ALIGNMENTS, Kind};
 use super::{Outcome, Tally, known, refusal, tally};
 use crate::lent::Lent;
 use crate::library::{self, Quick};
@@ -9,7 +10,6 @@ use model::crc32c::{self, BLOCK, crc32c};
 const LONGEST: usize = 5_000;
 const SHORT: usize = 64;
 const RANDOM: usize = 2_000;
-const ALIGNMENTS: usize = 64;
 const CHANGES: usize = 200_000;
 const SCRUBS: usize = 2_000;
 const STRIPES: usize = 100;
@@ -43,58 +43,25 @@ fn published(count: &mut u64) -> Outcome<()> {
     ];
     for (bytes, due) in rows {
         known(due, crc32c(bytes))?;
-        same("published", bytes, count)?;
+        CRC.same("published", bytes, count)?;
     }
     Ok(())
 }
 
-/// One input: counted, or the difference.
-fn same(what: &str, bytes: &[u8], count: &mut u64) -> Outcome<()> {
-    let lent = Lent::new(bytes);
-    let (model, library) = (crc32c(bytes), library::crc32c(&lent));
-    lent.kept(what)?;
-    if model != library {
-        return Err(format!(
-            "{what}, {} bytes: the model has {model:08X}, the library {library:08X}",
-            bytes.len()
-        ));
-    }
-    *count += 1;
-    Ok(())
-}
+/// What holds of the model besides is `published`.
+const CRC: Kind<u32> = Kind {
+    model: crc32c,
+    sound: |_, _| true,
+    lent: library::crc32c,
+    in_place: library::crc32c_at,
+};
 
-/// Each run of `length` bytes that has a single bit.
-fn single_bits(length: usize, count: &mut u64) -> Outcome<()> {
-    let mut bytes = vec![0; length];
-    for bit in 0..8 * length {
-        bytes[bit / 8] = 1 << (bit % 8);
-        same(&format!("only bit {bit} set"), &bytes, count)?;
-        bytes[bit / 8] = 0;
-    }
-    Ok(())
-}
-
-/// Blocks, short runs and some others at every place within sixty-four bytes.
-fn aligned(random: &mut Random, count: &mut u64) -> Outcome<()> {
-    let bytes = random.bytes(LONGEST + 2 * ALIGNMENTS);
-    let from = bytes.as_ptr().align_offset(ALIGNMENTS);
-    for alignment in 0..ALIGNMENTS {
-        let others = [0; 8].map(|_| random.below(LONGEST + 1));
-        for length in (0..=SHORT)
-            .chain([BLOCK - 1, BLOCK, BLOCK + 1])
-            .chain(others)
-        {
-            let run = &bytes[from + alignment..][..length];
-            let (model, library) = (crc32c(run), library::crc32c_at(run));
-            if model != library {
-                return Err(format!(
-                    "{length} bytes, {alignment} past a multiple of {ALIGNMENTS}: the model has {model:08X}, the library {library:08X}"
-                ));
-            }
-            *count += 1;
-        }
-    }
-    Ok(())
+/// Blocks, short runs and some others.
+fn some_lengths(random: &mut Random) -> Vec<usize> {
+    (0..=SHORT)
+        .chain([BLOCK - 1, BLOCK, BLOCK + 1])
+        .chain([0; 8].map(|_| random.below(LONGEST + 1)))
+        .collect()
 }
 
 /// Bits of a run changed from a place on, counted from the lowest bit of each byte: a bit of `change` for each.
@@ -194,20 +161,12 @@ fn stripe(many: usize, random: &mut Random, tally: &mut Tally) -> Outcome<()> {
 }
 
 pub fn compare(random: &mut Random) -> Outcome<String> {
-    let zeros = [0x00; LONGEST];
-    let ones = [0xFF; LONGEST];
-    let mut bytes = [0; LONGEST];
     let (mut vectors, mut each, mut single, mut mixed, mut anywhere, mut changes) =
         (0, 0, 0, 0, 0, 0);
     published(&mut vectors)?;
-    for length in 0..=LONGEST {
-        let what = [("all 00", &zeros), ("all FF", &ones)][length % 2];
-        same(what.0, &what.1[..length], &mut each)?;
-        random.fill(&mut bytes[..length]);
-        same("random", &bytes[..length], &mut each)?;
-    }
+    CRC.each_length(LONGEST, random, &mut each)?;
     for length in 0..=SHORT {
-        single_bits(length, &mut single)?;
+        CRC.single_bits(length, &mut single)?;
     }
     for turn in 0..RANDOM {
         let length = if turn % 2 == 0 {
@@ -215,10 +174,9 @@ pub fn compare(random: &mut Random) -> Outcome<String> {
         } else {
             random.below(LONGEST + 1)
         };
-        random.fill(&mut bytes[..length]);
-        same("random", &bytes[..length], &mut mixed)?;
+        CRC.same("random", &random.bytes(length), &mut mixed)?;
     }
-    aligned(random, &mut anywhere)?;
+    CRC.aligned(LONGEST, some_lengths, random, &mut anywhere)?;
     changed_bits(random, &mut changes)?;
     let mut tally = Tally::default();
     for many in (0..=20).cycle().take(SCRUBS) {
@@ -228,7 +186,7 @@ pub fn compare(random: &mut Random) -> Outcome<String> {
         stripe(many, random, &mut tally)?;
     }
     Ok(format!(
-        "{vectors} published vectors and {} other inputs alike: {each} at every length from 0 to {LONGEST} (random, and all 00 or all FF), \
+        "{vectors} published vectors and {} other inputs alike: {each} at every length from 0 to {LONGEST} (all 00, all FF, random), \
          {single} with a single bit, {mixed} random, half of them blocks, {anywhere} at every alignment below {ALIGNMENTS}; \
          {changes} changes of a block noticed, one bit at every place and within thirty-two bits at some; quick scrubs of guards: {}, {}",
         each + single + mixed + anywhere,
