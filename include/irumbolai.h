@@ -13,20 +13,26 @@
  * Each comment says what is written; nothing else changes. A buffer that is written must not overlap another one of
  * the same call.
  *
- * Structs go in and come back by value, as any C compiler does it. The largest, of a scan, are 240 and 248 bytes, which
+ * Structs go in and come back by value, as any C compiler does it. The largest, of a scan, are 400 and 408 bytes, which
  * each of its calls copies. Bytes between the fields hold nothing: compare structs by their fields, not with memcmp.
  * In C++ the word struct is needed before a name that is a call's too.
  *
  * The array. It is named by four numbers: `members` (drives, n), `stripes` (S), `volume` (any byte) and `method`, the
- * guard method of all its blocks: 1 (CRC) or 2 (checksum). Stripes, members and blocks are counted from 0. A stripe has
- * one block on each member. One of these holds the parity, the exclusive-or of the others' data; the other n - 1 hold
- * data, so the array's block numbers run from 0 to S x (n - 1) - 1. The parity of stripe s lies on member s mod n, and
- * its data, from block s x (n - 1) on, on the other members in rising order.
+ * guard method of all its blocks: 1 (CRC), 2 (checksum) or 3 (large blocks). Stripes, members and blocks are counted
+ * from 0. A stripe has one block on each member. One of these holds the parity, the exclusive-or of the others' data;
+ * the other n - 1 hold data, so the array's block numbers run from 0 to S x (n - 1) - 1. The parity of stripe s lies on
+ * member s mod n, and its data, from block s x (n - 1) on, on the other members in rising order.
  *
- * A block is 520 bytes: 512 of data, then its tag, in which every field has its highest byte first: guard (2 bytes, of
- * the data, but see method 2), application tag (2 bytes: 00h for data or 80h for parity, then the volume), reference
- * tag (4 bytes: the block number; for parity, the lowest block number in its stripe). A stripe in memory is its n
- * blocks in the order of the members, n x 520 bytes.
+ * A block is D bytes of data, then its tag, B bytes together. In the tag every field has its highest byte first. Of the
+ * guard (of the data, but see method 2), the application tag (00h for data or 80h for parity, then the volume) and the
+ * reference tag (the block number; for parity, the lowest block number in its stripe) it holds, in bytes:
+ *
+ *   method      D      B   guard   application   reference
+ *   1, 2      512    520       2             2           4
+ *   3       4,096  4,112       4             4           8
+ *
+ * In method 3 the last two bytes of the application tag are spare and due as 0: a block with another byte there has a
+ * wrong application tag. A stripe in memory is its n blocks in the order of the members, n x B bytes.
  *
  * Method 1, the CRC (irumbolai_guard). It notices every change of a block's data within sixteen successive bits, in the
  * parity too. Its guards combine as the data do: the guard of the parity is the exclusive-or of the data members'
@@ -52,12 +58,17 @@
  * in which the lost block held the same data as the one half written did before or was to hold after, as where both
  * were still empty. A scrub before the loss says torn by either method.
  *
- * Good, bad, unchecked. On a member of a stripe a block is just one of these. It is unchecked if FFFFh stands in its
- * application tag, whatever its other bytes are: by T10's rule such a block is not to be checked. Else it is good if
- * all three fields fit, which is to say that each is the one due there (in method 2 the parity's guard always fits),
- * and bad if one does not. Nobody vouches for the data of an unchecked block: they can be read and replaced, but no
- * call makes other data from them. No call sets the mark: write the two bytes to do so. A rebuild of the block takes it
- * away. A drive that was wiped with FFh reads as unchecked throughout.
+ * Method 3, large blocks with CRC-32C (irumbolai_crc32c). As method 1 in all but the lengths, the guard and the quick
+ * scrub (irumbolai_quick_scrub_wide). It notices every change of a block's data within thirty-two successive bits, each
+ * byte's lowest bit first, in the parity too. The guard of a block of zeros is not zero, so the n guards of a clean
+ * stripe combine to zero only where n is even; where n is odd they combine to that guard.
+ *
+ * Good, bad, unchecked. On a member of a stripe a block is just one of these. It is unchecked if FFFFh stands in the
+ * first two bytes of its application tag, whatever its other bytes are: by T10's rule such a block is not to be
+ * checked. Else it is good if all three fields fit, which is to say that each is the one due there (in method 2 the
+ * parity's guard always fits), and bad if one does not. Nobody vouches for the data of an unchecked block: they can be
+ * read and replaced, but no call makes other data from them. No call sets the mark: write the two bytes to do so. A
+ * rebuild of the block takes it away. A drive that was wiped with FFh reads as unchecked throughout.
  *
  * Faults. Which fields of a bad block do not fit hints at what happened. The guard: data changed on the drive. The
  * application tag: the block is of another volume, or parity where data are due or the other way round. The reference
@@ -69,15 +80,15 @@
  *
  *    1  members, or the number of guards, is not 3 to 16
  *    2  stripes is not 1 to 268,435,456
- *   12  method is not 1 or 2; tested next after 2
+ *   12  method is not 1 to 3; tested next after 2
  *    3  the array has no such stripe, or no such block
  *    4  the state of a scan is not fit: 1, 2, 12 or 3 holds of its numbers; or, of one of its first n members, the
- *       position is above 520, or a byte waits where none can: `waiting` has to be 0 unless the method is 2 and the
- *       position is odd and below 512
+ *       position is above B, the register is above FFFFh in method 1 or 2, or a byte waits where none can: `waiting`
+ *       has to be 0 unless the method is 2 and the position is odd and below 512
  *    5  the array has no such member
  *    6  a buffer has not the length that its call asks for
  *    7  a piece is longer than what its member still lacks of a block
- *    8  a member has not given all its 520 bytes
+ *    8  a member has not given all its B bytes
  *    9  the blocks that the call needs are not all good: one is bad or unchecked; or, in method 2, their guards do not
  *       combine to that of the rebuilt data
  */
@@ -130,8 +141,8 @@ struct irumbolai_sum {
 struct irumbolai_sum irumbolai_checksum(const uint8_t *bytes, size_t length);
 
 /*
- * CRC-32C of a run of bytes, as published with iSCSI, the guard of blocks of 4,096 bytes: generator 1EDC6F41h, register
- * started at all ones, lowest bit of each byte first, every bit turned at the end. That of no bytes is 0, that of the
+ * The guard of method 3 of a run of bytes: CRC-32C, as published with iSCSI, generator 1EDC6F41h, register started at
+ * all ones, lowest bit of each byte first, every bit turned at the end. That of no bytes is 0, that of the
  * nine characters 123456789 is E3069283h, that of 4,096 zeros is 98F94189h. A run of just 4,096 bytes takes a fraction
  * of the time that another of about that length takes.
  *
@@ -198,7 +209,7 @@ struct irumbolai_owner irumbolai_owner(size_t members, uint64_t stripes, uint8_t
  *   1  bad: at least one does not
  *   2  unchecked: no field is told, all their numbers are 0. Look at `kind` first: `fits` 0 does not mean bad here
  *
- *   lent      block: 520 bytes, read
+ *   lent      block: B bytes, read
  *   refusals  1, 2, 12, 3, 5, 6
  */
 struct irumbolai_field {
@@ -217,10 +228,10 @@ struct irumbolai_check irumbolai_check(size_t members, uint64_t stripes, uint8_t
                                        uint64_t stripe, size_t member, const uint8_t *block, size_t length);
 
 /*
- * Makes a stripe from its data: n - 1 times 512 bytes in the order of the block numbers. Each block gets its tag,
+ * Makes a stripe from its data: n - 1 times D bytes in the order of the block numbers. Each block gets its tag,
  * and the parity is made, with its tag by the method. Gives the refusal.
  *
- *   lent      data: (n - 1) x 512 bytes, read; bytes: the stripe, n x 520 bytes, every byte written
+ *   lent      data: (n - 1) x D bytes, read; bytes: the stripe, n x B bytes, every byte written
  *   refusals  1, 2, 12, 3, 6
  */
 uint32_t irumbolai_seal(size_t members, uint64_t stripes, uint8_t volume, uint8_t method, uint64_t stripe,
@@ -231,14 +242,14 @@ uint32_t irumbolai_seal(size_t members, uint64_t stripes, uint8_t volume, uint8_
  *
  *   0  stored: the block is good, and its data come out, whatever the other members hold
  *   1  rebuilt: the block is bad and all others are good, and the exclusive-or of the others' data comes out: the lost
- *      data, if parity was right before the loss. In method 1 no check can tell afterwards; in method 2 the guards
- *      stored on the others combine to the checksum of these data, which tells with the strength of sixteen bits
+ *      data, if parity was right before the loss. In methods 1 and 3 no check can tell afterwards; in method 2 the
+ *      guards stored on the others combine to the checksum of these data, which tells with the strength of sixteen bits
  *   2  unchecked: the block is unchecked, and its data come out as they stand, whatever the other members hold
  *
  * If the block is bad and another one is bad or unchecked, the refusal is 9; in method 2 also if the stored guards do
  * not combine to that checksum.
  *
- *   lent      bytes: the stripe, n x 520 bytes, read; out: 512 bytes, every byte written
+ *   lent      bytes: the stripe, n x B bytes, read; out: D bytes, every byte written
  *   refusals  1, 2, 12, 3, 6, 9
  */
 struct irumbolai_read {
@@ -254,7 +265,7 @@ struct irumbolai_read irumbolai_read(size_t members, uint64_t stripes, uint8_t v
  * data, the guards stored on the others must also combine to the checksum of these data, as for a read. The data are
  * the lost ones if parity was right before the loss. Gives the refusal.
  *
- *   lent      bytes: the stripe, n x 520 bytes, read; of them the member's 520 bytes, written
+ *   lent      bytes: the stripe, n x B bytes, read; of them the member's B bytes, written
  *   refusals  1, 2, 12, 3, 5, 6, 9
  */
 uint32_t irumbolai_rebuild(size_t members, uint64_t stripes, uint8_t volume, uint8_t method, uint64_t stripe,
@@ -265,8 +276,8 @@ uint32_t irumbolai_rebuild(size_t members, uint64_t stripes, uint8_t volume, uin
  * good, else the refusal is 9, also where one is unchecked; the other members are not looked at. A clean stripe stays
  * clean, a torn one torn. Gives the refusal.
  *
- *   lent      data: 512 bytes, read; bytes: the stripe, n x 520 bytes, of which the 520 of the block and the 520 of
- *             the parity are read and written
+ *   lent      data: D bytes, read; bytes: the stripe, n x B bytes, of which the B of the block and the B of the parity
+ *             are read and written
  *   refusals  1, 2, 12, 3, 6, 9
  */
 uint32_t irumbolai_update(size_t members, uint64_t stripes, uint8_t volume, uint8_t method, uint64_t block,
@@ -281,14 +292,14 @@ uint32_t irumbolai_update(size_t members, uint64_t stripes, uint8_t volume, uint
  *   3  unchecked: blocks are unchecked, and none is bad; `first` is the lowest member with one, `count` how many they
  *      are. Whether the stripe is torn is not said
  *   2  torn: all blocks are good, but the data of all members do not combine to zero by exclusive-or; `first` is the
- *      first byte, 0 to 511, at which they do not, and `count` is 0. In method 2 also if the data do combine to zero,
+ *      first byte, 0 to D - 1, at which they do not, and `count` is 0. In method 2 also if the data do combine to zero,
  *      but the guards stored on the n members do not; `first` is 512 then
  *   0  clean: all blocks are good, and the data combine to zero, in method 2 the stored guards too; `first` and `count`
  *      are 0
  *
  * Where the kind is not bad the last three are 0, for a clean stripe too.
  *
- *   lent      bytes: the stripe, n x 520 bytes, read
+ *   lent      bytes: the stripe, n x B bytes, read
  *   refusals  1, 2, 12, 3, 6
  */
 struct irumbolai_verdict {
@@ -305,11 +316,11 @@ struct irumbolai_verdict irumbolai_scrub(size_t members, uint64_t stripes, uint8
 
 /*
  * The quick scrub: the guards stored in the blocks of a stripe, one a member, without the data. `combination` is their
- * exclusive-or, and `differs` is 1 if it is not zero. The guards of a clean stripe do not differ, in either method. In
- * method 1 those of a torn one do if what its data combine to has all its one bits within sixteen successive bits, each
- * byte's highest bit first; other torn stripes can go unseen. In method 2 those of a stripe that is torn at 512 do; of
- * one that is torn at another byte nothing is said. Of a stripe with bad or unchecked blocks it tells nothing: it takes
- * their guards as they stand.
+ * exclusive-or, and `differs` is 1 if it is not zero. Of methods 1 and 2: the guards of a clean stripe do not differ.
+ * In method 1 those of a torn one do if what its data combine to has all its one bits within sixteen successive bits,
+ * each byte's highest bit first; other torn stripes can go unseen. In method 2 those of a stripe that is torn at 512
+ * do; of one that is torn at another byte nothing is said. Of a stripe with bad or unchecked blocks it tells nothing:
+ * it takes their guards as they stand.
  *
  *   lent      guards: `count` numbers, each made from its two bytes in the tag, the first the higher; read
  *   refusals  1
@@ -322,10 +333,12 @@ struct irumbolai_quick {
 struct irumbolai_quick irumbolai_quick_scrub(const uint16_t *guards, size_t count);
 
 /*
- * The same of guards of thirty-two bits, each the CRC-32C of a block of 4,096 bytes. That of a block of zeros is not
- * zero, and so guards of blocks that combine to zeros have an exclusive-or of zero only where they are even in number;
- * where they are odd it is 98F94189h, the guard of a block of zeros. `differs` is 1 if it is not the one due;
- * `combination` is then what it is, which can be 0. Where the guards fit it is 0, for an odd number of them too.
+ * The same of method 3, whose guards have thirty-two bits. That of a block of zeros is not zero, and so guards of
+ * blocks that combine to zeros have an exclusive-or of zero only where they are even in number; where they are odd it
+ * is 98F94189h, the guard of a block of zeros. `differs` is 1 if it is not the one due; `combination` is then what it
+ * is, which can be 0. Where the guards fit it is 0, for an odd number of them too. Those of a clean stripe fit; those
+ * of a torn one differ if what its data combine to has all its one bits within thirty-two successive bits, each byte's
+ * lowest bit first.
  *
  *   lent      guards: `count` numbers, each made from its four bytes in the tag, the first the highest; read
  *   refusals  1
@@ -333,11 +346,12 @@ struct irumbolai_quick irumbolai_quick_scrub(const uint16_t *guards, size_t coun
 struct irumbolai_quick irumbolai_quick_scrub_wide(const uint32_t *guards, size_t count);
 
 /*
- * A scan: the full scrub of a stripe whose bytes come in pieces. The caller keeps the state and a work buffer of 512
+ * A scan: the full scrub of a stripe whose bytes come in pieces. The caller keeps the state and a work buffer of D
  * bytes between the calls, and hands the state of the last answer to the next call. Of member m the state holds the
  * position in its block (`at[m]`: how many bytes it has given), the guard's register over its data so far
- * (`register_[m]`: in method 2 the sum of its whole words), the data byte that waits for the other one of its word
- * (`waiting[m]`: 0 where none waits, so always in method 1), and its 8 tag bytes (from `tag[8m]`). The work buffer
+ * (`register_[m]`: in methods 1 and 2 sixteen bits, in method 2 the sum of its whole words, in method 3 the CRC before
+ * its bits are turned), the data byte that waits for the other one of its word (`waiting[m]`: 0 where none waits, so
+ * always in methods 1 and 3), and its tag bytes (8 from `tag[8m]`; in method 3, 16 from `tag[16m]`). The work buffer
  * holds what all data so far combine to. Any state may be handed in: one that is not fit is refused by number 4, and a
  * fit one that no scan led to goes on from what it holds. A kept copy of state and work buffer is a scan that can be
  * taken up again.
@@ -349,9 +363,9 @@ struct irumbolai_scan {
     uint8_t method;
     uint64_t stripe;
     uint16_t at[16];
-    uint16_t register_[16];
+    uint32_t register_[16];
     uint8_t waiting[16];
-    uint8_t tag[128];
+    uint8_t tag[256];
 };
 struct irumbolai_taken {
     uint32_t refusal;
@@ -360,9 +374,9 @@ struct irumbolai_taken {
 
 /*
  * Begins a scan: the state has nothing taken, and all sixteen registers stand where the guard starts: at 0 in method 1,
- * at FFFFh in method 2. Where it is refused the whole state is zero.
+ * at FFFFh in method 2, at FFFFFFFFh in method 3. Where it is refused the whole state is zero.
  *
- *   lent      work: 512 bytes, every byte set to zero
+ *   lent      work: D bytes, every byte set to zero
  *   refusals  1, 2, 12, 3, 6
  */
 struct irumbolai_taken irumbolai_start(size_t members, uint64_t stripes, uint8_t volume, uint8_t method,
@@ -373,17 +387,17 @@ struct irumbolai_taken irumbolai_start(size_t members, uint64_t stripes, uint8_t
  * anywhere. Data bytes go into the member's register, or one waits for the next, tag bytes go into its tag bytes, and
  * its position moves on; nothing else of the state changes.
  *
- *   lent      bytes: the piece, read; work: 512 bytes, the data bytes combined into those at their places in the block
+ *   lent      bytes: the piece, read; work: D bytes, the data bytes combined into those at their places in the block
  *   refusals  4, 5, 6 (of the work buffer), 7
  */
 struct irumbolai_taken irumbolai_piece(struct irumbolai_scan state, size_t member, const uint8_t *bytes, size_t length,
                                        uint8_t *work, size_t work_length);
 
 /*
- * Ends a scan once every member has given its 520 bytes: the verdict that irumbolai_scrub gives of those blocks, by
+ * Ends a scan once every member has given its B bytes: the verdict that irumbolai_scrub gives of those blocks, by
  * the state and the work buffer alone. It changes nothing, and may be asked again.
  *
- *   lent      work: 512 bytes, read
+ *   lent      work: D bytes, read
  *   refusals  4, 6, 8
  */
 struct irumbolai_verdict irumbolai_finish(struct irumbolai_scan state, const uint8_t *work, size_t work_length);

@@ -13,10 +13,11 @@
 
 #include "irumbolai.h"
 
-enum { DATA_BYTES = 512, BLOCK_BYTES = 520, MOST_MEMBERS = 16 };
+/* The guard methods. Blocks of method 3 are large. */
+enum { CRC = 1, CHECKSUM = 2, LARGE = 3 };
 
-/* The guard methods. */
-enum { CRC = 1, CHECKSUM = 2 };
+/* The most that there is of each, in every method. */
+enum { MOST_MEMBERS = 16, MOST_DATA = 4096, MOST_BLOCK = 4112 };
 
 enum exit_code { CLEAN = 0, FOUND = 1, REFUSED = 2 };
 
@@ -30,6 +31,23 @@ struct stripe {
     uint8_t *bytes;
     size_t length;
 };
+
+/* How many bytes the data of a block have, and how many the whole block, by the method. */
+static size_t data_bytes(const struct stripe *stripe)
+{
+    return stripe->method == LARGE ? 4096 : 512;
+}
+
+static size_t block_bytes(const struct stripe *stripe)
+{
+    return stripe->method == LARGE ? 4112 : 520;
+}
+
+/* How many bytes the guard has in the tag. As many has the application tag, and twice as many the reference tag. */
+static size_t guard_bytes(const struct stripe *stripe)
+{
+    return stripe->method == LARGE ? 4 : 2;
+}
 
 /* A refusal number in words. */
 static const char *in_words(uint32_t refusal)
@@ -45,7 +63,7 @@ static const char *in_words(uint32_t refusal)
         [7] = "the piece is longer than what its member lacks",
         [8] = "a member has not given all its bytes",
         [9] = "the blocks that are needed are not all good, or do not belong together",
-        [12] = "the method is not 1 or 2",
+        [12] = "the method is not 1 to 3",
     };
     bool known = refusal < sizeof words / sizeof words[0] && words[refusal] != NULL;
 
@@ -90,7 +108,7 @@ static bool same(struct irumbolai_verdict a, struct irumbolai_verdict b)
 
 static const uint8_t *block_of(const struct stripe *stripe, size_t member)
 {
-    return stripe->bytes + member * BLOCK_BYTES;
+    return stripe->bytes + member * block_bytes(stripe);
 }
 
 /* The calls that take the array's numbers, each once: the rest of the program hands over a stripe. */
@@ -103,7 +121,7 @@ static struct irumbolai_owner owner_of(const struct stripe *stripe, size_t membe
 static struct irumbolai_check check_member(const struct stripe *stripe, size_t member)
 {
     return irumbolai_check(stripe->members, stripe->stripes, stripe->volume, stripe->method, stripe->number, member,
-                           block_of(stripe, member), BLOCK_BYTES);
+                           block_of(stripe, member), block_bytes(stripe));
 }
 
 static struct irumbolai_verdict scrub(const struct stripe *stripe)
@@ -118,24 +136,40 @@ static struct irumbolai_taken start_scan(const struct stripe *stripe, uint8_t *w
                            work_length);
 }
 
-/* The guard in the tag of a block, as it stands there: the highest byte comes first. */
-static uint16_t stored_guard(const uint8_t *block)
+/* The guard in the tag of a member's block, as it stands there: the highest byte comes first. */
+static uint32_t stored_guard(const struct stripe *stripe, size_t member)
 {
-    return (uint16_t)(block[DATA_BYTES] << 8 | block[DATA_BYTES + 1]);
+    const uint8_t *tag = block_of(stripe, member) + data_bytes(stripe);
+    uint32_t guard = 0;
+
+    for (size_t at = 0; at < guard_bytes(stripe); at++)
+        guard = guard << 8 | tag[at];
+    return guard;
 }
 
-/* The guard that the data of a block ask for, by the method. Their number is even, so the checksum is not refused. */
-static uint16_t due_guard(const struct stripe *stripe, const uint8_t *block)
+/* The guard that the data of a member ask for, by the method. Their number is even, so the checksum is not refused. */
+static uint32_t due_guard(const struct stripe *stripe, size_t member)
 {
+    const uint8_t *block = block_of(stripe, member);
+    size_t length = data_bytes(stripe);
+
     if (stripe->method == CHECKSUM)
-        return (uint16_t)irumbolai_checksum(block, DATA_BYTES).guard;
-    return irumbolai_guard(block, DATA_BYTES);
+        return irumbolai_checksum(block, length).guard;
+    if (stripe->method == LARGE)
+        return irumbolai_crc32c(block, length);
+    return irumbolai_guard(block, length);
 }
 
 /* The parity's guard by checksum tells of the whole stripe, and its own data ask for none. */
 static bool asks_for_guard(const struct stripe *stripe, size_t member)
 {
-    return stripe->method == CRC || owner_of(stripe, member).parity == 0;
+    return stripe->method != CHECKSUM || owner_of(stripe, member).parity == 0;
+}
+
+/* How many digits a guard is shown with. */
+static int guard_digits(const struct stripe *stripe)
+{
+    return (int)(2 * guard_bytes(stripe));
 }
 
 /* A field of a tag, with so many digits: as found, as expected, and whether they are the same. */
@@ -151,12 +185,12 @@ static void show_field(const char *name, int digits, struct irumbolai_field fiel
  */
 static void show_member(const struct stripe *stripe, size_t member)
 {
-    const uint8_t *block = block_of(stripe, member);
+    int digits = guard_digits(stripe);
     struct irumbolai_check check = check_member(stripe, member);
 
-    printf("member %zu: guard stored %04X, ", member, (unsigned)stored_guard(block));
+    printf("member %zu: guard stored %0*" PRIX32 ", ", member, digits, stored_guard(stripe, member));
     if (asks_for_guard(stripe, member))
-        printf("due %04X: ", (unsigned)due_guard(stripe, block));
+        printf("due %0*" PRIX32 ": ", digits, due_guard(stripe, member));
     else
         printf("not checked: ");
     if (check.refusal != 0) {
@@ -168,22 +202,27 @@ static void show_member(const struct stripe *stripe, size_t member)
         return;
     }
     printf("%s\n", check.kind == 0 ? "good" : "bad");
-    show_field("guard", 4, check.guard);
-    show_field("application tag", 4, check.application);
-    show_field("reference tag", 8, check.reference);
+    show_field("guard", digits, check.guard);
+    show_field("application tag", digits, check.application);
+    show_field("reference tag", 2 * digits, check.reference);
 }
 
-/* The quick scrub: the stored guards alone. */
+/* The quick scrub: the stored guards alone, of sixteen bits or of thirty-two. */
 static struct irumbolai_quick quick_scrub(const struct stripe *stripe)
 {
-    uint16_t guards[MOST_MEMBERS];
+    uint16_t narrow[MOST_MEMBERS];
+    uint32_t wide[MOST_MEMBERS];
 
-    for (size_t member = 0; member < stripe->members; member++)
-        guards[member] = stored_guard(block_of(stripe, member));
-    return irumbolai_quick_scrub(guards, stripe->members);
+    for (size_t member = 0; member < stripe->members; member++) {
+        wide[member] = stored_guard(stripe, member);
+        narrow[member] = (uint16_t)wide[member];
+    }
+    if (stripe->method == LARGE)
+        return irumbolai_quick_scrub_wide(wide, stripe->members);
+    return irumbolai_quick_scrub(narrow, stripe->members);
 }
 
-static void show_quick(struct irumbolai_quick quick)
+static void show_quick(const struct stripe *stripe, struct irumbolai_quick quick)
 {
     printf("quick scrub: ");
     if (quick.refusal != 0)
@@ -191,7 +230,7 @@ static void show_quick(struct irumbolai_quick quick)
     else if (quick.differs == 0)
         printf("fits\n");
     else
-        printf("differs, guards combine to %04" PRIX32 "\n", quick.combination);
+        printf("differs, guards combine to %0*" PRIX32 "\n", guard_digits(stripe), quick.combination);
 }
 
 /*
@@ -200,20 +239,21 @@ static void show_quick(struct irumbolai_quick quick)
  */
 static struct irumbolai_verdict scan(const struct stripe *stripe, size_t step)
 {
-    uint8_t work[DATA_BYTES];
-    struct irumbolai_taken taken = start_scan(stripe, work, sizeof work);
+    uint8_t work[MOST_DATA];
+    size_t work_length = data_bytes(stripe), end = block_bytes(stripe);
+    struct irumbolai_taken taken = start_scan(stripe, work, work_length);
 
-    for (size_t at = 0; at < BLOCK_BYTES && taken.refusal == 0; at += step) {
-        size_t length = BLOCK_BYTES - at < step ? BLOCK_BYTES - at : step;
+    for (size_t at = 0; at < end && taken.refusal == 0; at += step) {
+        size_t length = end - at < step ? end - at : step;
 
         for (size_t member = 0; member < stripe->members && taken.refusal == 0; member++)
-            taken = irumbolai_piece(taken.state, member, block_of(stripe, member) + at, length, work, sizeof work);
+            taken = irumbolai_piece(taken.state, member, block_of(stripe, member) + at, length, work, work_length);
     }
     if (taken.refusal != 0) {
         struct irumbolai_verdict refused = {.refusal = taken.refusal};
         return refused;
     }
-    return irumbolai_finish(taken.state, work, sizeof work);
+    return irumbolai_finish(taken.state, work, work_length);
 }
 
 /* Asks the library everything about a stripe. */
@@ -234,9 +274,9 @@ static enum exit_code look_at(const struct stripe *stripe)
     show_verdict("scrub", whole);
 
     struct irumbolai_quick quick = quick_scrub(stripe);
-    show_quick(quick);
+    show_quick(stripe, quick);
 
-    struct irumbolai_verdict halves = scan(stripe, BLOCK_BYTES / 2);
+    struct irumbolai_verdict halves = scan(stripe, block_bytes(stripe) / 2);
     struct irumbolai_verdict singles = scan(stripe, 1);
     show_verdict("scan in two halves", halves);
     show_verdict("scan in single bytes", singles);
@@ -264,7 +304,7 @@ static bool read_number(const char *text, uint64_t most, uint64_t *number)
  */
 static bool read_stripe(const char *path, struct stripe *stripe)
 {
-    uint8_t buffer[MOST_MEMBERS * BLOCK_BYTES + 1];
+    uint8_t buffer[MOST_MEMBERS * MOST_BLOCK + 1];
     FILE *file = fopen(path, "rb");
 
     if (file == NULL)

@@ -1,7 +1,7 @@
 //! A join of two guards, beside what it spares: going through the second run again, which comes from memory.
 
 use crate::library::{self, Plain};
-use crate::peers::{Isal, Ordinary, Peer};
+use crate::peers::{Isal, Ordinary, go_on};
 use crate::random::{self, Random};
 use crate::rows::{ISAL, MEMCPY, ORDINARY};
 use crate::timing::{is_here, keep, timed};
@@ -25,7 +25,7 @@ const JOINS: usize = 10_000;
 pub const COLUMNS: usize = 4;
 
 /// Goes through a run, or copies it.
-type Peers = fn(&[u8], &mut [u8]) -> u16;
+type Peers = fn(&[u8], &mut [u8]) -> u32;
 
 pub struct Ground {
     bytes: Vec<u8>,
@@ -60,8 +60,8 @@ impl Ground {
         let mut best = [None; COLUMNS];
         best[0] = Some(join(length as u32));
         let peers: [(usize, Peers); COLUMNS - 1] = [
-            (ORDINARY, |run, _| Ordinary::go_on(0x8BB7, run)),
-            (ISAL, |run, _| Isal::go_on(0x8BB7, run)),
+            (ORDINARY, |run, _| go_on::<Ordinary>(0x8BB7, run)),
+            (ISAL, |run, _| go_on::<Isal>(0x8BB7, run)),
             (MEMCPY, |run, copy| {
                 copy.copy_from_slice(run);
                 black_box(copy);
@@ -83,10 +83,11 @@ impl Ground {
     pub fn compare(&mut self) {
         for length in LENGTHS {
             let (run, _) = self.run(length);
-            let due = library::join::<Plain>(0x8BB7, library::guard::<Plain>(run), length as u32);
-            assert_eq!(Ordinary::go_on(0x8BB7, run), due, "a join, ordinary");
+            let of_run = library::guard::<Plain>(run);
+            let due = u32::from(library::join::<Plain>(0x8BB7, of_run, length as u32));
+            assert_eq!(go_on::<Ordinary>(0x8BB7, run), due, "a join, ordinary");
             if is_here(ISAL) {
-                assert_eq!(Isal::go_on(0x8BB7, run), due, "a join, ISA-L");
+                assert_eq!(go_on::<Isal>(0x8BB7, run), due, "a join, ISA-L");
             }
         }
     }

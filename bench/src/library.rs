@@ -21,9 +21,9 @@ struct Scan {
     method: u8,
     stripe: u64,
     at: [u16; 16],
-    register: [u16; 16],
+    register: [u32; 16],
     waiting: [u8; 16],
-    tag: [u8; 128],
+    tag: [u8; 256],
 }
 
 #[repr(C)]

@@ -96,8 +96,9 @@ fn jobs() {
     }
     for (row, source, best) in all {
         let from = match source {
-            Source::Cache => String::from("L1"),
-            Source::Memory => format!("{} MiB", Ground::mebibytes()),
+            Source::L1 => String::from("L1"),
+            Source::L2 => String::from("L2"),
+            Source::Memory => format!("{} MiB", timing::SEGMENTS),
         };
         let place = [row.name.to_string(), from];
         let unit = [row.unit.to_string()];

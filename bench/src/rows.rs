@@ -1,20 +1,23 @@
 //! What is measured: each row is one job, done by the library and by its peers. A new row is a new entry of ROWS.
 
 use crate::library::{self, Archive};
-use crate::peers::{self, Isal, IsalV3, Ordinary, Summed, isal};
-use crate::stripes::{BLOCK, CHECKSUM, CRC, DATA, LARGE, MEMBERS, STRIPE, blocks};
+use crate::peers::{self, Isal, IsalLarge, IsalLargeV3, IsalV3, Ordinary, OrdinaryLarge, Summed};
+use crate::stripes::{
+    BLOCK, CHECKSUM, CRC, DATA, LARGE, LARGE_BLOCK, LARGE_DATA, LARGE_STRIPE, MEMBERS, STRIPE,
+    blocks,
+};
 use std::hint::black_box;
 
 /// Where a job writes beside the stripe.
 pub struct Room {
-    pub copy: [u8; STRIPE],
+    pub copy: [u8; LARGE_STRIPE],
     pub work: [u8; DATA],
 }
 
 impl Room {
     pub fn new() -> Self {
         Room {
-            copy: [0; STRIPE],
+            copy: [0; LARGE_STRIPE],
             work: [0; DATA],
         }
     }
@@ -32,10 +35,11 @@ pub const ISAL_V3: usize = 4;
 pub const MEMCPY: usize = 5;
 pub const CONTESTANTS: usize = 6;
 
-/// Where the bytes of a row lie before its job.
+/// Where the bytes of a row lie before its job: one stripe over and over is in the L1 cache, but one of large blocks has 65,792 bytes, and no L1 holds it.
 #[derive(Clone, Copy, Debug, PartialEq)]
 pub enum Source {
-    Cache,
+    L1,
+    L2,
     Memory,
 }
 
@@ -86,7 +90,7 @@ pub const ROWS: &[Row] = &[
         unit: "block",
         units: MEMBERS,
         bytes: DATA,
-        sources: &[Source::Cache],
+        sources: &[Source::L1],
         method: CRC,
         jobs: all([
             |_, bytes, _| alone(library::guard::<library::Plain>, bytes),
@@ -102,7 +106,7 @@ pub const ROWS: &[Row] = &[
         unit: "block",
         units: MEMBERS,
         bytes: DATA,
-        sources: &[Source::Cache, Source::Memory],
+        sources: &[Source::L1, Source::Memory],
         method: CRC,
         jobs: all([
             |_, bytes, _| together(library::guards::<library::Plain>(bytes)),
@@ -118,7 +122,7 @@ pub const ROWS: &[Row] = &[
         unit: "stripe",
         units: 1,
         bytes: STRIPE,
-        sources: &[Source::Cache, Source::Memory],
+        sources: &[Source::L1, Source::Memory],
         method: CRC,
         jobs: all([
             |stripe, bytes, _| library::scrub::<library::Plain>(CRC, stripe, bytes).number(),
@@ -134,7 +138,7 @@ pub const ROWS: &[Row] = &[
         unit: "stripe",
         units: 1,
         bytes: STRIPE,
-        sources: &[Source::Cache, Source::Memory],
+        sources: &[Source::L1, Source::Memory],
         method: CRC,
         jobs: all([
             |stripe, bytes, _| rebuilt::<library::Plain>(CRC, stripe, bytes),
@@ -150,7 +154,7 @@ pub const ROWS: &[Row] = &[
         unit: "stripe",
         units: 1,
         bytes: STRIPE,
-        sources: &[Source::Cache, Source::Memory],
+        sources: &[Source::L1, Source::Memory],
         method: CRC,
         jobs: all([
             |stripe, bytes, room| {
@@ -176,7 +180,7 @@ pub const ROWS: &[Row] = &[
         unit: "block",
         units: MEMBERS,
         bytes: DATA,
-        sources: &[Source::Cache],
+        sources: &[Source::L1],
         method: CHECKSUM,
         jobs: without_isal([
             |_, bytes, _| alone(library::checksum::<library::Plain>, bytes),
@@ -190,7 +194,7 @@ pub const ROWS: &[Row] = &[
         unit: "block",
         units: MEMBERS,
         bytes: DATA,
-        sources: &[Source::Cache, Source::Memory],
+        sources: &[Source::L1, Source::Memory],
         method: CHECKSUM,
         jobs: without_isal([
             |_, bytes, _| guards(library::checksum::<library::Plain>, bytes),
@@ -204,7 +208,7 @@ pub const ROWS: &[Row] = &[
         unit: "stripe",
         units: 1,
         bytes: STRIPE,
-        sources: &[Source::Cache, Source::Memory],
+        sources: &[Source::L1, Source::Memory],
         method: CHECKSUM,
         jobs: without_isal([
             |stripe, bytes, _| library::scrub::<library::Plain>(CHECKSUM, stripe, bytes).number(),
@@ -218,7 +222,7 @@ pub const ROWS: &[Row] = &[
         unit: "stripe",
         units: 1,
         bytes: STRIPE,
-        sources: &[Source::Cache, Source::Memory],
+        sources: &[Source::L1, Source::Memory],
         method: CHECKSUM,
         jobs: without_isal([
             |stripe, bytes, _| rebuilt::<library::Plain>(CHECKSUM, stripe, bytes),
@@ -231,32 +235,64 @@ pub const ROWS: &[Row] = &[
         name: "CRC-32C of one block alone",
         unit: "block",
         units: MEMBERS,
-        bytes: LARGE,
-        sources: &[Source::Cache],
-        method: CRC,
+        bytes: LARGE_DATA,
+        sources: &[Source::L1],
+        method: LARGE,
         jobs: all([
             |_, bytes, _| alone_large(library::crc32c::<library::Plain>, bytes),
             |_, bytes, _| alone_large(library::crc32c::<library::V3>, bytes),
-            |_, bytes, _| alone_large(peers::crc32c, bytes),
-            |_, bytes, _| alone_large(isal::crc32c, bytes),
-            |_, bytes, _| alone_large(isal::crc32c, bytes),
+            |_, bytes, _| alone_large(peers::guard::<OrdinaryLarge>, bytes),
+            |_, bytes, _| alone_large(peers::guard::<IsalLarge>, bytes),
+            |_, bytes, _| alone_large(peers::guard::<IsalLargeV3>, bytes),
             |_, bytes, room| copy_one_large(bytes, room),
         ]),
     },
     Row {
         name: "CRC-32C of many blocks",
         unit: "block",
-        units: STRIPE / LARGE,
-        bytes: LARGE,
-        sources: &[Source::Cache, Source::Memory],
-        method: CRC,
+        units: MEMBERS,
+        bytes: LARGE_DATA,
+        sources: &[Source::L2, Source::Memory],
+        method: LARGE,
         jobs: all([
             |_, bytes, _| guards_large(library::crc32c::<library::Plain>, bytes),
             |_, bytes, _| guards_large(library::crc32c::<library::V3>, bytes),
-            |_, bytes, _| guards_large(peers::crc32c, bytes),
-            |_, bytes, _| guards_large(isal::crc32c, bytes),
-            |_, bytes, _| guards_large(isal::crc32c, bytes),
+            |_, bytes, _| guards_large(peers::guard::<OrdinaryLarge>, bytes),
+            |_, bytes, _| guards_large(peers::guard::<IsalLarge>, bytes),
+            |_, bytes, _| guards_large(peers::guard::<IsalLargeV3>, bytes),
             |_, bytes, room| copy_large(bytes, room),
+        ]),
+    },
+    Row {
+        name: "full scrub, method 3",
+        unit: "stripe",
+        units: 1,
+        bytes: LARGE_STRIPE,
+        sources: &[Source::L2, Source::Memory],
+        method: LARGE,
+        jobs: all([
+            |stripe, bytes, _| library::scrub::<library::Plain>(LARGE, stripe, bytes).number(),
+            |stripe, bytes, _| library::scrub::<library::V3>(LARGE, stripe, bytes).number(),
+            |stripe, bytes, _| peers::scrub::<OrdinaryLarge>(stripe, bytes).number(),
+            |stripe, bytes, _| peers::scrub::<IsalLarge>(stripe, bytes).number(),
+            |stripe, bytes, _| peers::scrub::<IsalLargeV3>(stripe, bytes).number(),
+            |_, bytes, room| copy_stripe(bytes, room),
+        ]),
+    },
+    Row {
+        name: "rebuild of one member, method 3",
+        unit: "stripe",
+        units: 1,
+        bytes: LARGE_STRIPE,
+        sources: &[Source::L2, Source::Memory],
+        method: LARGE,
+        jobs: all([
+            |stripe, bytes, _| rebuilt::<library::Plain>(LARGE, stripe, bytes),
+            |stripe, bytes, _| rebuilt::<library::V3>(LARGE, stripe, bytes),
+            |stripe, bytes, _| u64::from(peers::rebuild::<OrdinaryLarge>(stripe, LOST, bytes)),
+            |stripe, bytes, _| u64::from(peers::rebuild::<IsalLarge>(stripe, LOST, bytes)),
+            |stripe, bytes, _| u64::from(peers::rebuild::<IsalLargeV3>(stripe, LOST, bytes)),
+            |_, bytes, room| copy_stripe(bytes, room),
         ]),
     },
 ];
@@ -266,12 +302,12 @@ fn rebuilt<A: Archive>(method: u8, stripe: u64, bytes: &mut [u8]) -> u64 {
 }
 
 /// Guards of the first block, each begun when the one before is known: where it starts depends on it.
-fn alone(guard: impl Fn(&[u8]) -> u16, bytes: &[u8]) -> u64 {
-    one_by_one(|at| u64::from(guard(&bytes[at..at + DATA])))
+fn alone<G: Into<u64>>(guard: impl Fn(&[u8]) -> G, bytes: &[u8]) -> u64 {
+    one_by_one(|at| guard(&bytes[at..at + DATA]).into())
 }
 
 fn alone_large(guard: impl Fn(&[u8]) -> u32, bytes: &[u8]) -> u64 {
-    one_by_one(|at| u64::from(guard(&bytes[at..at + LARGE])))
+    one_by_one(|at| guard(&bytes[at..at + LARGE_DATA]).into())
 }
 
 #[inline(always)]
@@ -285,12 +321,13 @@ fn one_by_one(guard: impl Fn(usize) -> u64) -> u64 {
 }
 
 /// The guards of all blocks, none of which waits for another.
-pub fn guards(guard: impl Fn(&[u8]) -> u16, bytes: &[u8]) -> u64 {
+pub fn guards<G: Into<u64>>(guard: impl Fn(&[u8]) -> G, bytes: &[u8]) -> u64 {
     together(blocks(bytes).map(|block| guard(&block[..DATA])))
 }
 
 fn guards_large(guard: impl Fn(&[u8]) -> u32, bytes: &[u8]) -> u64 {
-    together(bytes.chunks_exact(LARGE).map(guard))
+    let blocks = bytes.chunks_exact(LARGE_BLOCK);
+    together(blocks.map(|block| guard(&block[..LARGE_DATA])))
 }
 
 /// Guards as one number.
@@ -321,22 +358,22 @@ fn copy_blocks(bytes: &[u8], room: &mut Room) -> u64 {
 
 fn copy_one_large(bytes: &[u8], room: &mut Room) -> u64 {
     for _ in 0..MEMBERS {
-        copy(&bytes[..LARGE], &mut room.copy[..LARGE]);
+        copy(&bytes[..LARGE_DATA], &mut room.copy[..LARGE_DATA]);
     }
     0
 }
 
 fn copy_large(bytes: &[u8], room: &mut Room) -> u64 {
     for (from, to) in bytes
-        .chunks_exact(LARGE)
-        .zip(room.copy.chunks_exact_mut(LARGE))
+        .chunks_exact(LARGE_BLOCK)
+        .zip(room.copy.chunks_exact_mut(LARGE_BLOCK))
     {
-        copy(from, to);
+        copy(&from[..LARGE_DATA], &mut to[..LARGE_DATA]);
     }
     0
 }
 
 pub fn copy_stripe(bytes: &[u8], room: &mut Room) -> u64 {
-    copy(bytes, &mut room.copy);
+    copy(bytes, &mut room.copy[..bytes.len()]);
     0
 }

@@ -4,7 +4,7 @@ use crate::machine;
 use crate::peers::isal;
 use crate::random::{self, Random};
 use crate::rows::{CONTESTANTS, ISAL, ISAL_V3, Job, MEMCPY, Room, Row, Source, V3};
-use crate::stripes::{CHECKSUM, CRC, MEMBERS, STRIPE, damage, seal};
+use crate::stripes::{CHECKSUM, CRC, LARGE, MEMBERS, STRIPE, damage, seal, stripe_length};
 use std::hint::black_box;
 use std::time::Instant;
 
@@ -20,46 +20,62 @@ pub const ROUNDS: usize = PASSES * TURNS;
 /// On how many stripes, most of them damaged, the answers are compared.
 const CASES: usize = 300;
 
-/// A turn in the cache does one stripe so many times over.
-const REPEATS: usize = 64;
+/// A turn in the cache does one stripe over and over, until about so many bytes went by.
+const REPEATED: usize = 64 * STRIPE;
 
-/// A turn in memory walks over so many stripes: about 1 MiB.
-const SEGMENT: usize = 126;
+/// A turn in memory walks over stripes of about so many bytes.
+const SEGMENT: usize = 1 << 20;
 
 /// So many segments lie in memory. Each turn takes the next, so that a segment comes again when all others went by.
-const SEGMENTS: usize = 256;
+pub const SEGMENTS: usize = 256;
 
-/// Stripes that lie on a boundary of 64 bytes.
+/// How many stripes of a method come nearest to so many bytes.
+fn stripes_in(method: u8, bytes: usize) -> usize {
+    (bytes + stripe_length(method) / 2) / stripe_length(method)
+}
+
+/// Stripes of a method that lie on a boundary of 64 bytes.
 struct Stripes {
     bytes: Vec<u8>,
     from: usize,
+    length: usize,
 }
 
 impl Stripes {
     fn new(method: u8, count: usize, random: &mut Random) -> Self {
-        let mut bytes = vec![0; count * STRIPE + 64];
+        let length = stripe_length(method);
+        let mut bytes = vec![0; count * length + 64];
         let from = bytes.as_ptr().align_offset(64);
-        seal(method, &mut bytes[from..from + count * STRIPE], random);
-        Stripes { bytes, from }
+        seal(method, &mut bytes[from..from + count * length], random);
+        Stripes {
+            bytes,
+            from,
+            length,
+        }
     }
 
     fn stripe(&mut self, number: usize) -> &mut [u8] {
-        &mut self.bytes[self.from + number * STRIPE..][..STRIPE]
+        &mut self.bytes[self.from + number * self.length..][..self.length]
     }
 }
 
 /// The stripes that all rows of a method are measured on.
 struct OfMethod {
     one: Stripes,
+    repeats: usize,
     many: Stripes,
+    segment: usize,
     next: usize,
 }
 
 impl OfMethod {
     fn new(method: u8, random: &mut Random) -> Self {
+        let segment = stripes_in(method, SEGMENT);
         OfMethod {
             one: Stripes::new(method, 1, random),
-            many: Stripes::new(method, SEGMENT * SEGMENTS, random),
+            repeats: stripes_in(method, REPEATED),
+            many: Stripes::new(method, segment * SEGMENTS, random),
+            segment,
             next: 0,
         }
     }
@@ -69,6 +85,7 @@ impl OfMethod {
 pub struct Ground {
     crc: OfMethod,
     checksum: OfMethod,
+    large: OfMethod,
 }
 
 impl Ground {
@@ -77,11 +94,8 @@ impl Ground {
         Ground {
             crc: OfMethod::new(CRC, &mut random),
             checksum: OfMethod::new(CHECKSUM, &mut random),
+            large: OfMethod::new(LARGE, &mut random),
         }
-    }
-
-    pub fn mebibytes() -> f64 {
-        ((SEGMENT * SEGMENTS * STRIPE) as f64 / (1 << 20) as f64).round()
     }
 
     /// The turns of a pass at a row. Keeps the best time of each contestant for one unit, in nanoseconds; none of one that is not here.
@@ -89,15 +103,17 @@ impl Ground {
         let mut room = Room::new();
         let ground = match row.method {
             CRC => &mut self.crc,
-            _ => &mut self.checksum,
+            CHECKSUM => &mut self.checksum,
+            _ => &mut self.large,
         };
         for _ in 0..TURNS {
             for (who, job) in taking_part(row) {
                 let (from, first, stripes, repeats) = match source {
-                    Source::Cache => (&mut ground.one, 0, 1, REPEATS),
+                    Source::L1 | Source::L2 => (&mut ground.one, 0, 1, ground.repeats),
                     Source::Memory => {
                         ground.next = (ground.next + 1) % SEGMENTS;
-                        (&mut ground.many, ground.next * SEGMENT, SEGMENT, 1)
+                        let first = ground.next * ground.segment;
+                        (&mut ground.many, first, ground.segment, 1)
                     }
                 };
                 let time = timed(|| {

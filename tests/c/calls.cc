@@ -1,5 +1,5 @@
-// Every call of the header from C++, on the stripes of the bench table and the same by checksum; every field of every answer is looked at. Each
-// buffer that is lent has its exact length on the heap, so that valgrind notices any step beyond.
+// Every call of the header from C++, on the stripes of the bench table, the same by checksum and the same in large blocks; every field of every
+// answer is looked at. Each buffer that is lent has its exact length on the heap, so that valgrind notices any step beyond.
 #include <algorithm>
 #include <cstdio>
 #include <cstdlib>
@@ -76,14 +76,26 @@ static struct irumbolai_taken start(Array array, uint64_t stripe, Bytes &work)
     return irumbolai_start(array.members, array.stripes, array.volume, array.method, stripe, work.data(), work.size());
 }
 
-// The array of the sealed stripe in the table, and the same by checksum.
+// The array of the sealed stripe in the table, the same by checksum, and the same in large blocks.
 static const Array three = {3, 1, 7, 1};
 static const Array summed = {3, 1, 7, 2};
+static const Array large = {3, 1, 7, 3};
 
-// 512 bytes of zeros with these at their end.
-static Bytes ending(std::initializer_list<uint8_t> last)
+// How long the data of a block are, and the whole block.
+static size_t data_length(Array array)
 {
-    Bytes data(512);
+    return array.method == 3 ? 4096 : 512;
+}
+
+static size_t block_length(Array array)
+{
+    return array.method == 3 ? 4112 : 520;
+}
+
+// A block's data, zeros with these at their end.
+static Bytes ending(std::initializer_list<uint8_t> last, size_t length = 512)
+{
+    Bytes data(length);
     std::copy(last.begin(), last.end(), data.end() - static_cast<std::ptrdiff_t>(last.size()));
     return data;
 }
@@ -177,8 +189,10 @@ static void places()
     DUE(place.member, 14);
     DUE(place.stripe, 268435455);
     DUE(place_of(largest, 4026531840).refusal, 3);
-    DUE(place_of({16, 268435456, 7, 3}, 4026531840).refusal, 12);
-    DUE(place_of({16, 0, 7, 3}, 4026531840).refusal, 2);
+    DUE(place_of({16, 268435456, 7, 3}, 4026531839).refusal, 0);
+    DUE(place_of({16, 268435456, 7, 3}, 4026531840).refusal, 3);
+    DUE(place_of({16, 268435456, 7, 4}, 4026531840).refusal, 12);
+    DUE(place_of({16, 0, 7, 4}, 4026531840).refusal, 2);
 
     const Array five = {5, 65537, 7, 2};
     struct irumbolai_owner owner = owner_at(five, 65536, 1);
@@ -309,6 +323,99 @@ static void jobs_by_sum()
     DUE(rebuild(summed, 0, 2, anew), 9);
 }
 
+// Data and a tag of method 3: the guard, kind and volume, the two spare bytes, and the reference, which here is a byte.
+static Bytes large_block(std::initializer_list<uint8_t> last, uint32_t guard, uint8_t kind, uint8_t reference)
+{
+    const Bytes in_bytes = {uint8_t(guard >> 24), uint8_t(guard >> 16), uint8_t(guard >> 8), uint8_t(guard)};
+    return joined(ending(last, 4096), joined(in_bytes, {kind, 7, 0, 0, 0, 0, 0, 0, 0, 0, 0, reference}));
+}
+
+// The stripe of the table in large blocks.
+static Bytes sealed_large()
+{
+    const Bytes data = joined(large_block({1}, 0x6A92C28A, 0, 0), large_block({2}, 0x79C2317E, 0, 1));
+    return joined(large_block({3}, 0x8BA9B27D, 0x80, 0), data);
+}
+
+// A stripe of three large zero blocks, but for what the parity ends in, with tags that fit.
+static Bytes torn_large(std::initializer_list<uint8_t> last, uint32_t guard)
+{
+    const Bytes data = joined(large_block({}, 0x98F94189, 0, 0), large_block({}, 0x98F94189, 0, 1));
+    return joined(large_block(last, guard, 0x80, 0), data);
+}
+
+// A check of the third block of the stripe above with one byte changed: the application tag or the reference as found, which does not fit.
+static void due_large_fault(size_t at, uint8_t value, uint64_t application, uint64_t reference)
+{
+    Bytes block = large_block({2}, 0x79C2317E, 0, 1);
+    block[at] = value;
+    const struct irumbolai_check checked = check(large, 0, 2, block);
+    DUE(checked.refusal, 0);
+    DUE(checked.kind, application == 0x70000 && reference == 1 ? 0 : 1);
+    due_field(checked.guard, 0x79C2317E, 0x79C2317E, 1);
+    due_field(checked.application, application, 0x70000, application == 0x70000);
+    due_field(checked.reference, reference, 1, reference == 1);
+    block[4100] = block[4101] = 0xFF;
+    due_untold(check(large, 0, 2, block), 0, 2);
+}
+
+static void large_checks()
+{
+    due_large_fault(4101, 7, 0x70000, 1);
+    due_large_fault(4101, 8, 0x80000, 1);
+    due_large_fault(4102, 1, 0x70100, 1);
+    due_large_fault(4103, 0xFF, 0x700FF, 1);
+    due_large_fault(4104, 1, 0x70000, 0x0100000000000001);
+    due_large_fault(4107, 1, 0x70000, 0x0000000100000001);
+    due_large_fault(4111, 0, 0x70000, 0);
+    Bytes block = large_block({1}, 0x79C2317E, 0, 1);
+    const struct irumbolai_check checked = check(large, 0, 2, block);
+    DUE(checked.kind, 1);
+    due_field(checked.guard, 0x79C2317E, 0x6A92C28A, 0);
+    due_field(check({16, 268435456, 9, 3}, 268435455, 14, block).reference, 1, 4026531839, 0);
+    block.pop_back();
+    due_untold(check(large, 0, 2, block), 6, 0);
+    due_untold(check(large, 0, 2, Bytes(520)), 6, 0);
+    due_untold(check(three, 0, 2, Bytes(4112)), 6, 0);
+}
+
+static void large_jobs()
+{
+    const Bytes data = joined(ending({1}, 4096), ending({2}, 4096)), zeros(4096);
+    Bytes stripe(3 * 4112, 0xFF), out(4096, 0xFF), small(3 * 520, 0xFF), short_out(512, 0xFF);
+    DUE(seal(large, 0, Bytes(2 * 512), stripe), 6);
+    DUE(seal(large, 0, data, small), 6);
+    DUE(stripe == Bytes(3 * 4112, 0xFF), true);
+    DUE(small == Bytes(3 * 520, 0xFF), true);
+    DUE(seal(large, 0, data, stripe), 0);
+    DUE(stripe == sealed_large(), true);
+    due_verdict(scrub(large, 0, stripe), 0, 0, 0, 0);
+    due_verdict(scrub(large, 0, small), 6, 0, 0, 0);
+
+    DUE(read_block(large, 1, stripe, short_out).refusal, 6);
+    DUE(short_out == Bytes(512, 0xFF), true);
+    struct irumbolai_read read = read_block(large, 1, stripe, out);
+    DUE(read.refusal, 0);
+    DUE(read.kind, 0);
+    DUE(out == ending({2}, 4096), true);
+    stripe[4112 + 4103] = 1;
+    due_verdict(scrub(large, 0, stripe), 0, 1, 1, 1, "-A-");
+    read = read_block(large, 0, stripe, out);
+    DUE(read.refusal, 0);
+    DUE(read.kind, 1);
+    DUE(out == ending({1}, 4096), true);
+    DUE(update(large, 0, zeros, stripe), 9);
+    DUE(rebuild(large, 0, 2, stripe), 9);
+    DUE(rebuild(large, 0, 1, stripe), 0);
+    DUE(stripe == sealed_large(), true);
+    DUE(rebuild(large, 0, 0, small), 6);
+
+    DUE(update(large, 0, Bytes(512), stripe), 6);
+    DUE(update(large, 0, zeros, stripe), 0);
+    DUE(stripe == joined(large_block({2}, 0x79C2317E, 0x80, 0), joined(large_block({}, 0x98F94189, 0, 0), large_block({2}, 0x79C2317E, 0, 1))), true);
+    due_verdict(scrub(large, 0, torn_large({0xF1, 0x76, 0xEC, 0x05, 0x01}, 0x98F94189)), 0, 2, 4091, 0);
+}
+
 // The block with data ending in 01 marked as not to be checked.
 static Bytes marked(Bytes stripe)
 {
@@ -385,6 +492,8 @@ static void wide_scrubs()
     due_wide({0xFFFFFFFF, 0xFFFF0000, 0x0000FF00, 0x100000FF}, 0, 1, 0x10000000);
     due_wide({0x98F94189, 0x98F94189, 0x98F94189}, 0, 0, 0);
     due_wide({0x98F94189, 0x98F94189, 0}, 0, 1, 0);
+    due_wide({0x8BA9B27D, 0x6A92C28A, 0x79C2317E}, 0, 0, 0);
+    due_wide({0xA0E82E25, 0x98F94189, 0x98F94189}, 0, 1, 0xA0E82E25);
     due_wide({0, 0}, 1, 0, 0);
     due_wide(std::vector<uint32_t>(17), 1, 0, 0);
 }
@@ -409,7 +518,7 @@ static void states()
             DUE(taken.state.register_[i], i == 4 ? 0x9CD9 : 0);
             DUE(taken.state.waiting[i], 0);
         }
-        for (int i = 0; i < 128; i++)
+        for (int i = 0; i < 256; i++)
             DUE(taken.state.tag[i], i == 32 ? 0xA1 : i == 33 ? 0xB2 : i == 34 ? 0xC3 : 0);
         DUE(work == ending({2}), true);
         taken = irumbolai_piece(taken.state, 4, piece.data(), 6, work.data(), work.size());
@@ -417,11 +526,55 @@ static void states()
     DUE(irumbolai_piece(taken.state, 5, piece.data(), 0, work.data(), work.size()).refusal, 5);
     due_verdict(irumbolai_finish(taken.state, work.data(), work.size()), 8, 0, 0, 0);
     due_verdict(irumbolai_finish(taken.state, work.data(), 511), 6, 0, 0, 0);
-    taken.state.method = 3;
+    taken.state.method = 4;
     due_verdict(irumbolai_finish(taken.state, work.data(), work.size()), 4, 0, 0, 0);
+    taken.state.method = 3;
+    due_verdict(irumbolai_finish(taken.state, work.data(), work.size()), 6, 0, 0, 0);
     taken.state.method = 1;
     taken.state.members = 2;
     due_verdict(irumbolai_finish(taken.state, work.data(), work.size()), 4, 0, 0, 0);
+}
+
+// The same by method 3: registers before the end step, sixteen tag bytes a member, and a work buffer of 4,096 bytes.
+static void large_states()
+{
+    Bytes work(4096, 0xFF), piece = joined(ending({2}, 4096), {0xA1, 0xB2, 0xC3}), small(512, 0xFF);
+    const struct irumbolai_taken refused = start({5, 70000, 7, 3}, 65536, small);
+    DUE(refused.refusal, 6);
+    DUE(refused.state.method, 0);
+    DUE(refused.state.register_[0], 0);
+    DUE(small == Bytes(512, 0xFF), true);
+    struct irumbolai_taken taken = start({5, 70000, 7, 3}, 65536, work);
+    DUE(taken.refusal, 0);
+    DUE(work == Bytes(4096), true);
+    for (int i = 0; i < 16; i++)
+        DUE(taken.state.register_[i], 0xFFFFFFFF);
+    taken = irumbolai_piece(taken.state, 4, piece.data(), piece.size(), work.data(), work.size());
+    for (int again = 0; again < 2; again++) {
+        DUE(taken.refusal, again == 0 ? 0 : 7);
+        DUE(taken.state.method, 3);
+        DUE(taken.state.stripe, 65536);
+        for (int i = 0; i < 16; i++) {
+            DUE(taken.state.at[i], i == 4 ? 4099 : 0);
+            DUE(taken.state.register_[i], i == 4 ? 0x863DCE81 : 0xFFFFFFFF);
+            DUE(taken.state.waiting[i], 0);
+        }
+        for (int i = 0; i < 256; i++)
+            DUE(taken.state.tag[i], i == 64 ? 0xA1 : i == 65 ? 0xB2 : i == 66 ? 0xC3 : 0);
+        DUE(work == ending({2}, 4096), true);
+        taken = irumbolai_piece(taken.state, 4, piece.data(), 14, work.data(), work.size());
+    }
+    due_verdict(irumbolai_finish(taken.state, work.data(), work.size()), 8, 0, 0, 0);
+    due_verdict(irumbolai_finish(taken.state, small.data(), small.size()), 6, 0, 0, 0);
+
+    struct irumbolai_scan unfit = taken.state;
+    unfit.at[3] = 4113;
+    DUE(irumbolai_piece(unfit, 4, piece.data(), 0, work.data(), work.size()).refusal, 4);
+    unfit.at[3] = 4112;
+    DUE(irumbolai_piece(unfit, 4, piece.data(), 0, work.data(), work.size()).refusal, 0);
+    unfit.at[3] = 1;
+    unfit.waiting[3] = 1;
+    DUE(irumbolai_piece(unfit, 4, piece.data(), 0, work.data(), work.size()).refusal, 4);
 }
 
 // A byte that waits for its pair: at an odd place of the data, by checksum, and nowhere else.
@@ -462,15 +615,37 @@ static void waiting()
     DUE(irumbolai_piece(unfit, 3, last.data(), 0, work.data(), work.size()).refusal, 0);
 }
 
+// A register has sixteen bits by methods 1 and 2, of each of the members; and no more are looked at. By method 3 it has thirty-two.
+static void registers()
+{
+    const Bytes none = {0};
+    for (uint8_t method = 1; method <= 3; method++) {
+        const Array five = {5, 70000, 7, method};
+        Bytes work(data_length(five), 0xFF);
+        const struct irumbolai_scan fit = start(five, 65536, work).state;
+        for (int member = 0; member < 16; member++)
+            for (uint32_t value : {0xFFFFu, 0x10000u, 0xFFFFFFFFu}) {
+                struct irumbolai_scan state = fit;
+                state.register_[member] = value;
+                const uint32_t unfit = method < 3 && member < 5 && value > 0xFFFF ? 4 : 0;
+                const struct irumbolai_taken taken = irumbolai_piece(state, 0, none.data(), 0, work.data(), work.size());
+                DUE(taken.refusal, unfit);
+                DUE(taken.state.register_[member], value);
+                DUE(irumbolai_finish(state, work.data(), work.size()).refusal, unfit == 0 ? 8 : 4);
+            }
+    }
+}
+
 // A stripe in pieces of at most seven bytes, each a buffer of its own, the last member first.
 static struct irumbolai_verdict scanned(const Bytes &stripe, Array array = three)
 {
-    Bytes work(512, 0xFF);
+    const size_t length = block_length(array);
+    Bytes work(data_length(array), 0xFF);
     struct irumbolai_taken taken = start(array, 0, work);
-    for (size_t at = 0; at < 520; at += 7)
+    for (size_t at = 0; at < length; at += 7)
         for (size_t member = 3; member-- > 0;) {
-            const uint8_t *block = stripe.data() + 520 * member;
-            const Bytes piece(block + at, block + std::min<size_t>(at + 7, 520));
+            const uint8_t *block = stripe.data() + length * member;
+            const Bytes piece(block + at, block + std::min(at + 7, length));
             taken = irumbolai_piece(taken.state, member, piece.data(), piece.size(), work.data(), work.size());
             DUE(taken.refusal, 0);
         }
@@ -483,11 +658,15 @@ int main()
     checks();
     jobs();
     jobs_by_sum();
+    large_checks();
+    large_jobs();
     unchecked();
     scrubs();
     wide_scrubs();
     states();
+    large_states();
     waiting();
+    registers();
     due_verdict(scanned(sealed()), 0, 0, 0, 0);
     due_verdict(scanned(torn({0x01, 0x8B, 0xB6}, 0x8B, 0xB7)), 0, 2, 509, 0);
     due_verdict(scanned(torn({0x01, 0x8B, 0xB6}, 0x8B, 0xB6)), 0, 1, 0, 1, "G--");
@@ -503,6 +682,16 @@ int main()
     due_verdict(scanned(unfit, summed), 0, 2, 512, 0);
     unfit[520] ^= 1;
     due_verdict(scanned(unfit, summed), 0, 1, 1, 1, "G--");
+    due_verdict(scanned(sealed_large(), large), 0, 0, 0, 0);
+    due_verdict(scanned(torn_large({0xF0, 0x76, 0xEC, 0x05, 0x01}, 0xA0E82E25), large), 0, 2, 4091, 0);
+    due_verdict(scanned(torn_large({0xF0, 0x76, 0xEC, 0x05, 0x01}, 0x98F94189), large), 0, 1, 0, 1, "G--");
+    Bytes spare = sealed_large();
+    spare[2 * 4112 + 4102] = 0x80;
+    due_verdict(scanned(spare, large), 0, 1, 2, 1, "-A-");
+    spare[2 * 4112 + 4104] = 1;
+    due_verdict(scanned(spare, large), 0, 1, 2, 1, "-AR");
+    spare[2 * 4112 + 4100] = spare[2 * 4112 + 4101] = 0xFF;
+    due_verdict(scanned(spare, large), 0, 3, 2, 1);
     std::printf("every call from C++, %d values as due\n", compared);
     return 0;
 }

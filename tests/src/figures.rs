@@ -2,15 +2,25 @@
 
 use crate::random::Random;
 use model::checksum::{START, Sum, checksum};
+use model::crc32c::{self, crc32c};
 use model::guard::{go_on, guard};
 use model::join;
 use model::layout::{Array, Owner, Place};
 use model::report;
 use model::scan::{self, History, Scan};
-use model::stripe::{
-    self, BLOCK, Checked, DATA, Field, Fields, Fits, Source, Verdict, guard_of, stored_guards,
-};
+use model::stripe::{self, Checked, Field, Fields, Fits, Source, Verdict, guard_of, stored_guards};
 use std::fmt::Debug;
+use std::ops::Range;
+
+/// The bytes of a block of methods 1 and 2, its data and all of it, and the data of a block of method 3.
+const DATA: usize = 512;
+const BLOCK: usize = 520;
+const LARGE: usize = 4_096;
+
+/// The bytes of a member in a stripe of methods 1 and 2.
+fn span(member: usize) -> Range<usize> {
+    member * BLOCK..(member + 1) * BLOCK
+}
 
 /// Figures that were right, or the first that was not.
 struct Figures {
@@ -96,7 +106,7 @@ impl Figures {
             method,
             ..array(3, 1)
         };
-        for method in [0, 3, 4, 255] {
+        for method in [0, 4, 255] {
             let none = none(method);
             self.due("no method", none.fits(), Err(12))?;
             let few = Array { members: 2, ..none };
@@ -123,7 +133,7 @@ impl Figures {
             let due = String::from("REFUSED 12\n");
             self.due("header, no method", report::report(&image), due)?;
         }
-        for method in [1, 2] {
+        for method in [1, 2, 3] {
             self.due("a method", none(method).fits(), Ok(()))?;
         }
         Ok(())
@@ -139,13 +149,13 @@ impl Figures {
             (1, [0x00, 0x01, 0x00, 7, 0, 0, 0, 0]),
             (2, [0x00, 0x02, 0x00, 7, 0, 0, 0, 1]),
         ] {
-            let block = &sealed[stripe::span(member)];
+            let block = &sealed[span(member)];
             self.due("summed tag", &block[DATA..], &tag)?;
         }
         let scrubbed = stripe::scrub(&three, 0, &sealed);
         self.due("summed scrub", scrubbed, Ok(Verdict::Clean))?;
         let updated = stripe::update(&three, 0, &[0; DATA], &sealed).expect("good blocks");
-        let guards = stored_guards(&updated);
+        let guards = stored_guards(&three.format(), &updated);
         self.due("updated sums", guards, vec![0xFFFD, 0xFFFF, 0x0002])?;
         let parity = &updated[..BLOCK];
         self.due("its own", guard_of(&three, &parity[..DATA]), 0x0002)?;
@@ -157,7 +167,7 @@ impl Figures {
         self.due("updated scrub", scrubbed, Ok(Verdict::Clean))?;
         for member in 0..3 {
             let mut lost = updated.clone();
-            lost[stripe::span(member)].fill(0);
+            lost[span(member)].fill(0);
             let rebuilt = stripe::rebuild(&three, 0, member, &lost);
             self.due("rebuilt by sums", rebuilt, Ok(updated.clone()))?;
         }
@@ -198,7 +208,7 @@ impl Figures {
             let rebuilt = stripe::rebuild(&three, 0, member, &bytes);
             self.due("its members", rebuilt, Err(9))?;
         }
-        bytes[stripe::span(2)][0] ^= 1;
+        bytes[span(2)][0] ^= 1;
         let read = stripe::read(&three, 1, &bytes, &[0; DATA]);
         self.due("its bad member read", read, Err(9))?;
         let bad = Verdict::Bad {
@@ -235,7 +245,171 @@ impl Figures {
         self.due("a byte waits at 1", finished, Err(8))?;
         astray.method = 1;
         let finished = scan::finish(&astray, &work);
-        self.due("a byte waits by method 1", finished, Err(4))
+        self.due("a byte waits by method 1", finished, Err(4))?;
+        let mut wide = start;
+        wide.register[2] = 0x1_0000;
+        let finished = scan::finish(&wide, &work);
+        self.due("a register of seventeen bits", finished, Err(4))?;
+        (wide.register[2], wide.register[3]) = (0xFFFF, 0x1_0000);
+        let finished = scan::finish(&wide, &work);
+        self.due("one past the members", finished, Err(8))
+    }
+
+    /// The bench's stripe by method 3. Its guards were computed by another program.
+    fn large_stripe(&mut self) -> Result<(), String> {
+        let three = large(3, 1);
+        let format = three.format();
+        let lengths = (format.data, format.tag(), format.block());
+        self.due("large lengths", lengths, (LARGE, 16, 4_112))?;
+        let sealed = sealed_in(&three);
+        self.due("large stripe", sealed.len(), 3 * 4_112)?;
+        self.due("large parity", &sealed[LARGE - 4..LARGE], &[0, 0, 0, 3])?;
+        let rows: [([u8; 4], [u8; 4], u8, [u64; 3]); 3] = [
+            (
+                [0x8B, 0xA9, 0xB2, 0x7D],
+                [0x80, 7, 0, 0],
+                0,
+                [0x8BA9_B27D, 0x8007_0000, 0],
+            ),
+            (
+                [0x6A, 0x92, 0xC2, 0x8A],
+                [0x00, 7, 0, 0],
+                0,
+                [0x6A92_C28A, 0x0007_0000, 0],
+            ),
+            (
+                [0x79, 0xC2, 0x31, 0x7E],
+                [0x00, 7, 0, 0],
+                1,
+                [0x79C2_317E, 0x0007_0000, 1],
+            ),
+        ];
+        for (member, (guard, application, last, numbers)) in rows.into_iter().enumerate() {
+            let block = &sealed[format.span(member)];
+            let tag = [&guard[..], &application, &[0; 7], &[last]].concat();
+            self.due("large tag", &block[LARGE..], &tag)?;
+            let said = stripe::check(&three, 0, member, block);
+            let good = Checked::Good(fields(numbers, numbers));
+            self.due("large check", said, Ok(good))?;
+            let short = stripe::check(&three, 0, member, &block[..BLOCK]);
+            self.due("a small block", short, Err(6))?;
+        }
+        let scrubbed = stripe::scrub(&three, 0, &sealed);
+        self.due("large scrub", scrubbed, Ok(Verdict::Clean))?;
+        let updated = stripe::update(&three, 0, &[0; LARGE], &sealed).expect("good blocks");
+        let guards = stored_guards(&format, &updated);
+        self.due("blank", crc32c(&[0; LARGE]), 0x98F9_4189)?;
+        self.due(
+            "updated large guards",
+            guards,
+            vec![0x79C2_317E, 0x98F9_4189, 0x79C2_317E],
+        )?;
+        for member in 0..3 {
+            let mut lost = updated.clone();
+            lost[format.span(member)].fill(0);
+            let rebuilt = stripe::rebuild(&three, 0, member, &lost);
+            self.due("large rebuilt", rebuilt, Ok(updated.clone()))?;
+        }
+        let header = [0x00, 0x08, 0x02, 0x03, 0x07, 0x00, 0x00, 0x00, 0x01, 0x03];
+        self.due("large header", &report::header(&three)[..], &header)?;
+        self.due(
+            "large report",
+            &report::report(&[&header[..], &sealed].concat())[..],
+            "SCRUB v1 members 3 stripes 1\n0 CLEAN\nTOTAL 1 clean 1 bad 0 unchecked 0 torn 0\n",
+        )?;
+        self.due(
+            "large tag of the last block",
+            &stripe::due(&large(16, 268_435_456), 268_435_455, 14, 0)[8..],
+            &[0, 0, 0, 0, 0xEF, 0xFF, 0xFF, 0xFF],
+        )
+    }
+
+    /// A spare byte that is not zero, a reference past thirty-two bits, and the mark before either.
+    fn large_faults(&mut self) -> Result<(), String> {
+        let three = large(3, 1);
+        let block = sealed_in(&three)[three.format().span(2)].to_vec();
+        let due = [0x79C2_317E, 0x0007_0000, 1];
+        for (place, found) in [
+            (4_102, [due[0], 0x0007_0100, 1]),
+            (4_103, [due[0], 0x0007_0001, 1]),
+            (4_104, [due[0], due[1], 0x0100_0000_0000_0001]),
+            (4_107, [due[0], due[1], 0x0000_0001_0000_0001]),
+        ] {
+            let mut block = block.clone();
+            block[place] = 1;
+            let said = stripe::check(&three, 0, 2, &block);
+            self.due("large fault", said, Ok(Checked::Bad(fields(found, due))))?;
+            block[4_100..4_102].fill(0xFF);
+            let said = stripe::check(&three, 0, 2, &block);
+            self.due("its mark", said, Ok(Checked::Unchecked))?;
+        }
+        Ok(())
+    }
+
+    /// Zeros, but for the parity, which ends in the generator, thirty-three bits long, or in some of it.
+    fn large_torn(&mut self) -> Result<(), String> {
+        let three = large(3, 1);
+        for (first, quick) in [(0xF1, None), (0xF0, Some(0xA0E8_2E25))] {
+            let mut parity = [0; LARGE];
+            parity[LARGE - 5..].copy_from_slice(&[first, 0x76, 0xEC, 0x05, 0x01]);
+            let data = [parity, [0; LARGE], [0; LARGE]];
+            let guards = data.map(|data| crc32c(&data));
+            let tagged =
+                |member: usize| stripe::tagged(&three, 0, member, &data[member], guards[member]);
+            let bytes: Vec<u8> = (0..3).flat_map(tagged).collect();
+            let torn = Verdict::Torn { place: 4_091 };
+            let scrubbed = stripe::scrub(&three, 0, &bytes);
+            self.due("large torn", scrubbed, Ok(torn))?;
+            let found = crc32c::quick_scrub(&guards);
+            self.due("large quick scrub", found, Ok(quick))?;
+        }
+        Ok(())
+    }
+
+    /// A scan by method 3: its registers hold what is there before the end step.
+    fn large_pieces(&mut self) -> Result<(), String> {
+        let three = large(3, 1);
+        let (start, work) = scan::start(&three, 0, &[1; LARGE]).expect("fit");
+        self.due("large start", start.register, [0xFFFF_FFFF; 16])?;
+        let short = scan::start(&three, 0, &[0; DATA]);
+        self.due("a small work buffer", short, Err(6))?;
+        let (nine, work) = scan::piece(&start, 1, b"123456789", &work).expect("fit");
+        let found = (nine.at[1], nine.register[1], nine.waiting[1]);
+        self.due("nine bytes", found, (9, !0xE306_9283, 0))?;
+        let mut astray = start;
+        astray.waiting[2] = 1;
+        self.due("a byte waits", scan::finish(&astray, &work), Err(4))?;
+        astray.at[2] = 1;
+        self.due("at 1 too", scan::finish(&astray, &work), Err(4))?;
+        for (at, due) in [(4_112, Err(8)), (4_113, Err(4))] {
+            let mut far = start;
+            far.at[2] = at;
+            self.due("large position", scan::finish(&far, &work), due)?;
+        }
+        let mut history = History::open(three, 0);
+        let sealed = sealed_in(&three);
+        for (member, block) in sealed.chunks(4_112).enumerate() {
+            self.due("early", history.finish(), Err(8))?;
+            let (first, second) = block.split_at(4_097);
+            for piece in [first, second] {
+                self.due("large piece", history.piece(member, piece), Ok(()))?;
+            }
+        }
+        self.due("then of 1", history.piece(1, &[0]), Err(7))?;
+        self.due("large finish", history.finish(), Ok(Verdict::Clean))?;
+        let state = history.state();
+        self.due(
+            "large registers",
+            [state.register[1], state.register[2]],
+            [!0x6A92_C28A, !0x79C2_317E],
+        )?;
+        self.due(
+            "tag bytes from 32",
+            &state.tag[32..48],
+            &sealed[2 * 4_112 + LARGE..],
+        )?;
+        let finished = scan::finish(&state, &history.work());
+        self.due("its finish", finished, Ok(Verdict::Clean))
     }
 
     fn joins(&mut self) -> Result<(), String> {
@@ -308,7 +482,7 @@ impl Figures {
             (1, [0x8B, 0xB7, 0x00, 7, 0, 0, 0, 0], [0x8BB7, 0x0007, 0]),
             (2, [0x9C, 0xD9, 0x00, 7, 0, 0, 0, 1], [0x9CD9, 0x0007, 1]),
         ] {
-            let block = &sealed[stripe::span(member)];
+            let block = &sealed[span(member)];
             self.due("tag", &block[DATA..], &tag)?;
             self.due(
                 "check",
@@ -324,7 +498,7 @@ impl Figures {
         let updated = stripe::update(&three, 0, &[0; DATA], &sealed).expect("good blocks");
         self.due(
             "updated guards",
-            stripe::stored_guards(&updated),
+            stored_guards(&three.format(), &updated),
             vec![0x9CD9, 0, 0x9CD9],
         )?;
         self.due(
@@ -350,12 +524,13 @@ impl Figures {
             let mut parity = [0; DATA];
             parity[DATA - 3..].copy_from_slice(&ending);
             let data = [parity, [0; DATA], [0; DATA]];
+            let guards = data.map(|data| guard(&data));
             let tagged = |member: usize| {
-                let (data, guard) = (&data[member], guard(&data[member]));
+                let (data, guard) = (&data[member], guards[member].into());
                 stripe::tagged(&three, 0, member, data, guard)
             };
             let bytes: Vec<u8> = (0..3).flat_map(tagged).collect();
-            let quick = stripe::quick_scrub(&stripe::stored_guards(&bytes));
+            let quick = stripe::quick_scrub(&guards);
             self.due(
                 "scrub",
                 stripe::scrub(&three, 0, &bytes),
@@ -363,13 +538,9 @@ impl Figures {
             )?;
             self.due("quick scrub", quick, Ok(combination))?;
             let mut lost = bytes.clone();
-            lost[stripe::span(1)].fill(0);
+            lost[span(1)].fill(0);
             let rebuilt = stripe::rebuild(&three, 0, 1, &lost).expect("good blocks");
-            self.due(
-                "rebuilt, torn",
-                &rebuilt[stripe::span(1)][DATA - 3..DATA],
-                &ending,
-            )?;
+            self.due("rebuilt, torn", &rebuilt[span(1)][DATA - 3..DATA], &ending)?;
             self.due(
                 "its scrub",
                 stripe::scrub(&three, 0, &rebuilt),
@@ -383,10 +554,10 @@ impl Figures {
     fn marked_stripe(&mut self) -> Result<(), String> {
         let three = array(3, 1);
         let mut bytes = sealed();
-        let block = &mut bytes[stripe::span(1)];
+        let block = &mut bytes[span(1)];
         block[DATA - 1] = 0xFE;
         block[514..516].fill(0xFF);
-        let said = stripe::check(&three, 0, 1, &bytes[stripe::span(1)]);
+        let said = stripe::check(&three, 0, 1, &bytes[span(1)]);
         self.due("check, marked", said, Ok(Checked::Unchecked))?;
         let unchecked = Verdict::Unchecked {
             member: 1,
@@ -413,7 +584,7 @@ impl Figures {
             &report::report(&image)[..],
             "SCRUB v1 members 3 stripes 1\n0 UNCHECKED 1 1\nTOTAL 1 clean 0 bad 0 unchecked 1 torn 0\n",
         )?;
-        bytes[stripe::span(2)][0] ^= 1;
+        bytes[span(2)][0] ^= 1;
         let bad = Verdict::Bad {
             member: 2,
             count: 1,
@@ -469,14 +640,14 @@ impl Figures {
         ];
         for (what, from, member, found, expected, line) in rows {
             let sealed = sealed();
-            let bytes = from.map(|member| &sealed[stripe::span(member)]).concat();
-            let said = stripe::check(&three, 0, member, &bytes[stripe::span(member)]);
+            let bytes = from.map(|member| &sealed[span(member)]).concat();
+            let said = stripe::check(&three, 0, member, &bytes[span(member)]);
             self.due(what, said, Ok(Checked::Bad(fields(found, expected))))?;
             self.bad_line(what, &bytes, line)?;
         }
         let mut bytes = sealed();
-        bytes[stripe::span(1)][DATA - 1] = 3;
-        let said = stripe::check(&three, 0, 1, &bytes[stripe::span(1)]);
+        bytes[span(1)][DATA - 1] = 3;
+        let said = stripe::check(&three, 0, 1, &bytes[span(1)]);
         let expected = fields(BLOCKS[0], [0x176E, 0x0007, 0]);
         self.due("last byte changed", said, Ok(Checked::Bad(expected)))?;
         self.bad_line("last byte changed", &bytes, "1 1 G--")?;
@@ -497,22 +668,14 @@ impl Figures {
         let mut history = History::open(array(3, 1), 0);
         let sealed = sealed();
         self.due("finish too early", history.finish(), Err(8))?;
-        self.due(
-            "piece of 520",
-            history.piece(1, &sealed[stripe::span(1)]),
-            Ok(()),
-        )?;
+        self.due("piece of 520", history.piece(1, &sealed[span(1)]), Ok(()))?;
         self.due("then of 1", history.piece(1, &[0]), Err(7))?;
         self.due("then of 0", history.piece(1, &[]), Ok(()))?;
         self.due("piece for member 3", history.piece(3, &[]), Err(5))?;
         for byte in &sealed[..BLOCK] {
             self.due("piece of 1", history.piece(0, &[*byte]), Ok(()))?;
         }
-        self.due(
-            "last piece",
-            history.piece(2, &sealed[stripe::span(2)]),
-            Ok(()),
-        )?;
+        self.due("last piece", history.piece(2, &sealed[span(2)]), Ok(()))?;
         self.due("finish", history.finish(), Ok(Verdict::Clean))
     }
 }
@@ -530,6 +693,14 @@ fn array(members: usize, stripes: u64) -> Array {
 fn summed(members: usize, stripes: u64) -> Array {
     Array {
         method: 2,
+        ..array(members, stripes)
+    }
+}
+
+/// The same array, its blocks large.
+fn large(members: usize, stripes: u64) -> Array {
+    Array {
+        method: 3,
         ..array(members, stripes)
     }
 }
@@ -563,10 +734,12 @@ fn sealed() -> Vec<u8> {
 }
 
 fn sealed_in(array: &Array) -> Vec<u8> {
-    let mut data = [0; 2 * DATA];
-    data[DATA - 1] = 1;
-    data[2 * DATA - 1] = 2;
-    stripe::seal(array, 0, &data, &[0; 3 * BLOCK]).expect("numbers that fit")
+    let length = array.format().data;
+    let mut data = vec![0; 2 * length];
+    data[length - 1] = 1;
+    data[2 * length - 1] = 2;
+    let room = vec![0; array.stripe_length()];
+    stripe::seal(array, 0, &data, &room).expect("numbers that fit")
 }
 
 /// The code that document 000 suggests for a block, carries wrapped after every eight words, with its shift as it is meant.
@@ -589,6 +762,10 @@ pub fn check(random: &mut Random) -> Result<String, String> {
     figures.summed_stripe()?;
     figures.torn_guards()?;
     figures.summed_pieces()?;
+    figures.large_stripe()?;
+    figures.large_faults()?;
+    figures.large_torn()?;
+    figures.large_pieces()?;
     figures.joins()?;
     figures.places()?;
     figures.sealed_stripe()?;

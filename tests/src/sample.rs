@@ -1,16 +1,16 @@
-//! Writes a small image to standard output: five members and a stripe for each kind of verdict, with the guards of the method that is named, 1 or 2.
+//! Writes a small image to standard output: five members and a stripe for each kind of verdict, by the method that is named, 1, 2 or 3.
 
 use model::layout::Array;
 use model::report;
-use model::stripe::{self, APPLICATION, BLOCK, DATA, UNCHECKED};
+use model::stripe::{self, UNCHECKED};
 use std::env;
 use std::io::{self, Write};
 
-/// The array of a method. Method 2 has a verdict more, and a stripe for it.
+/// The array of a method. Methods 2 and 3 have something of their own that can go wrong, and a stripe for it.
 fn array_of(method: u8) -> Array {
     Array {
         members: 5,
-        stripes: 5 + u64::from(method),
+        stripes: if method == 1 { 6 } else { 7 },
         volume: 7,
         method,
     }
@@ -18,39 +18,45 @@ fn array_of(method: u8) -> Array {
 
 /// A sealed stripe, each of whose data blocks counts up from another byte.
 fn sealed(array: &Array, number: u64) -> Vec<u8> {
-    let places = 0..array.data_members() * DATA;
+    let length = array.format().data;
+    let places = 0..array.data_members() * length;
     let data: Vec<u8> = places
-        .map(|place| (place + place / DATA + 16 * number as usize) as u8)
+        .map(|place| (place + place / length + 16 * number as usize) as u8)
         .collect();
-    let room = vec![0; array.members * BLOCK];
+    let room = vec![0; array.stripe_length()];
     stripe::seal(array, number, &data, &room).expect("numbers that fit")
 }
 
 fn damage(array: &Array, number: u64, bytes: &mut [u8]) {
+    let format = array.format();
     match number {
         // A bit of member 3 has changed.
-        1 => bytes[stripe::span(3)][100] ^= 1,
+        1 => bytes[format.span(3)][100] ^= 1,
         // Members 0 and 1 hold each other's blocks.
         2 => {
-            let (first, others) = bytes.split_at_mut(BLOCK);
-            first.swap_with_slice(&mut others[..BLOCK]);
+            let (first, others) = bytes.split_at_mut(format.block());
+            first.swap_with_slice(&mut others[..format.block()]);
         }
         // Members 1 and 4 are marked as not to be checked.
         3 => {
             for member in [1, 4] {
-                bytes[stripe::span(member)][APPLICATION].copy_from_slice(&UNCHECKED);
+                bytes[format.span(member)][format.mark()].copy_from_slice(&UNCHECKED);
             }
         }
         // Member 2 was written, data and tag, and the parity was not.
         4 => {
-            let block = &mut bytes[stripe::span(2)];
-            block[509] ^= 1;
-            let guard = stripe::guard_of(array, &block[..DATA]);
-            let tagged = stripe::tagged(array, number, 2, &block[..DATA], guard);
+            let block = &mut bytes[format.span(2)];
+            block[format.data - 3] ^= 1;
+            let guard = stripe::guard_of(array, &block[..format.data]);
+            let tagged = stripe::tagged(array, number, 2, &block[..format.data], guard);
             block.copy_from_slice(&tagged);
         }
         // By method 2 a bit of the parity's guard has changed, which nobody checks by itself.
-        5 if array.method == 2 => bytes[stripe::span(array.parity_member(number))][DATA] ^= 1,
+        5 if array.method == 2 => {
+            bytes[format.span(array.parity_member(number))][format.data] ^= 1;
+        }
+        // By method 3 a byte of member 4 that has to be zero is not.
+        5 if array.method == 3 => bytes[format.span(4)][format.spare()][1] = 1,
         _ => {}
     }
 }
@@ -59,7 +65,8 @@ fn main() -> io::Result<()> {
     let array = match env::args().skip(1).collect::<Vec<_>>()[..] {
         [ref method] if method == "1" => array_of(1),
         [ref method] if method == "2" => array_of(2),
-        _ => return Err(io::Error::other("one word wanted: the method, 1 or 2")),
+        [ref method] if method == "3" => array_of(3),
+        _ => return Err(io::Error::other("one word wanted: the method, 1, 2 or 3")),
     };
     let mut image = report::header(&array);
     for number in 0..array.stripes {

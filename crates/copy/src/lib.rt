@@ -4,6 +4,9 @@ ghost use Prim.Native.Nat.{_+_, _≤_};
 ghost use lib.ListN.{length};
 ghost use lib.Seq.{sets};
 
+// The length of most long runs. For this one the compiler makes a copy of its own, which is faster than one for any length.
+const USUAL: usize = 512;
+
 // Copies `src`, which has room there, into `dst` from a place on.
 fn fill(dst: &mut [u8], at: usize, src: &[u8])
     requires { ⌜ at + length (now src) ≤ length (now dst) ⌝ }
@@ -26,6 +29,10 @@ pub fn put(dst: &mut [u8], at: usize, src: &[u8])
     }
     let room = length - at;
     if src.len() <= room {
+        if src.len() == USUAL {
+            fill(dst, at, &src[0..USUAL]);
+            return;
+        }
         fill(dst, at, src);
         return;
     }

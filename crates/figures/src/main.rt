@@ -23,4 +23,5 @@ fn main() {
     stripes::unfit();
     wide::published();
     wide::scrubs();
+    stripes::sealed_large();
 }

@@ -1,4 +1,4 @@
-// Stripes of the bench table: one sealed, updated, then marked, then changed, by either guard method; and torn ones.
+// Stripes of the bench table: one sealed, updated, then marked, then changed, by methods 1 and 2; the same of large blocks; and torn ones.
 use crate::text::four_digits;
 use crate::text::named;
 use crate::text::two_digits;
@@ -9,6 +9,7 @@ use tag::pair;
 use verdict::Compared;
 use verdict::Scrubbed;
 use verdict::Verdict;
+ghost use Prim.Native.Nat.{_≤_};
 
 // Three members, one stripe, volume 7.
 fn three(method: u8) -> Array {
@@ -41,9 +42,34 @@ pub fn sealed(title: &[u8], method: u8) {
     shown(array, &bytes);
 }
 
+// The same of large blocks, and then block 0 with its data as they were and a spare byte that is not zero.
+pub fn sealed_large() {
+    let array = three(3);
+    let mut content = [0u8; 8192];
+    content[4095] = 1;
+    content[8191] = 2;
+    let mut bytes = [0u8; 12336];
+    io::write_all(STDOUT_FILENO, b"\nlarge blocks, tag of         is\n");
+    stripe::seal(array, 0, &content, &mut bytes);
+    shown(array, &bytes);
+    io::write_all(STDOUT_FILENO, b"block 0 updated, tag of      is\n");
+    let zeros = [0u8; 4096];
+    stripe::update(array, 0, &zeros, &mut bytes);
+    shown(array, &bytes);
+    bytes[8212] = 0xFF;
+    bytes[8213] = 0xFF;
+    bytes[8214] = 1;
+    io::write_all(STDOUT_FILENO, b"block 0 marked, tag of       is\n");
+    shown(array, &bytes);
+    bytes[8212] = 0;
+    bytes[8213] = 7;
+    io::write_all(STDOUT_FILENO, b"spare byte 01, tag of        is\n");
+    shown(array, &bytes);
+}
+
 // A stripe's tags, how its first block reads, and its verdict.
 fn shown(array: Array, bytes: &[u8]) {
-    tags(bytes);
+    tags(array.method, bytes);
     reading(array, bytes);
     verdict(array, bytes);
 }
@@ -89,25 +115,44 @@ fn scrubs(array: Array, bytes: &[u8]) {
 }
 
 // The tags of the three members.
-fn tags(bytes: &[u8]) {
+fn tags(method: u8, bytes: &[u8]) {
+    if method == 3 {
+        large_tag(b"member 0                    ", bytes, 4096);
+        large_tag(b"member 1                    ", bytes, 8208);
+        large_tag(b"member 2                    ", bytes, 12320);
+        return;
+    }
     tag(b"member 0                    ", bytes, 512);
     tag(b"member 1                    ", bytes, 1032);
     tag(b"member 2                    ", bytes, 1552);
 }
 
-// One line: a member, and the eight bytes of its tag.
+// One line: a member, and the bytes of its tag.
 fn tag(member: &[u8], bytes: &[u8], at: u16) {
     io::write_all(STDOUT_FILENO, member);
-    let from = at as usize;
-    byte(bytes, from);
-    byte(bytes, from + 1);
-    byte(bytes, from + 2);
-    byte(bytes, from + 3);
-    byte(bytes, from + 4);
-    byte(bytes, from + 5);
-    byte(bytes, from + 6);
-    byte(bytes, from + 7);
+    eight(bytes, at as usize);
     io::write_all(STDOUT_FILENO, b"\n");
+}
+
+// The same of a large block.
+fn large_tag(member: &[u8], bytes: &[u8], at: u16) {
+    io::write_all(STDOUT_FILENO, member);
+    eight(bytes, at as usize);
+    eight(bytes, at as usize + 8);
+    io::write_all(STDOUT_FILENO, b"\n");
+}
+
+fn eight(bytes: &[u8], at: usize)
+    requires { ⌜ at ≤ 65543 ⌝ }
+{
+    byte(bytes, at);
+    byte(bytes, at + 1);
+    byte(bytes, at + 2);
+    byte(bytes, at + 3);
+    byte(bytes, at + 4);
+    byte(bytes, at + 5);
+    byte(bytes, at + 6);
+    byte(bytes, at + 7);
 }
 
 fn byte(bytes: &[u8], at: usize) {
@@ -117,10 +162,18 @@ fn byte(bytes: &[u8], at: usize) {
 
 // How block 0 reads, and its last byte.
 fn reading(array: Array, bytes: &[u8]) {
-    let mut out = [0u8; 512];
+    let mut out = [0u8; 4096];
+    if array.method == 3 {
+        read_into(array, bytes, &mut out);
+        return;
+    }
+    read_into(array, bytes, &mut out[0..512]);
+}
+
+fn read_into(array: Array, bytes: &[u8], out: &mut [u8]) {
     io::write_all(STDOUT_FILENO, b"block 0 reads                ");
-    let read = stripe::read(array, 0, bytes, &mut out);
-    let last = wide(out[511]);
+    let read = stripe::read(array, 0, bytes, out);
+    let last = wide(last_of(out));
     match read {
         Reading::Refused(number) => named(b"refusal ", number as u64),
         Reading::Stored => named(b"stored, last byte ", last),
@@ -128,6 +181,11 @@ fn reading(array: Array, bytes: &[u8]) {
         Reading::Unchecked => named(b"unchecked, last byte ", last),
     }
     io::write_all(STDOUT_FILENO, b"\n");
+}
+
+fn last_of(bytes: &[u8]) -> u8 {
+    let length = bytes.len();
+    if length == 0 { 0 } else { bytes[length - 1] }
 }
 
 fn wide(byte: u8) -> u64 {

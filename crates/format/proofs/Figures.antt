@@ -1,4 +1,5 @@
--- Figures of method 2, computed: guards of blocks, a register in pieces, and two blocks whose guards do not combine. Assumes nothing.
+-- Figures of the methods, computed: the lengths of all three; of method 3 a register and a guard; of method 2 guards of blocks, a register in
+-- pieces, and two blocks whose guards do not combine. Assumes nothing.
 use mathlib.Core.Path.{_≡_, refl, sym, ap₂, _∙_}
 use mathlib.Core.Bool.{true, false}
 use mathlib.Core.List.{List, [], _∷_, _++_}
@@ -7,6 +8,8 @@ use native.Mathlib.Omega.{arith}
 use lib.Bits.{bitXor}
 use lib.ListN.{replicate}
 use Rattle.xor.specs.Xors.{xors}
+use Rattle.castagnoli.specs.Reflected.{bitsUp, bitsUpOf, stepDown, feedDown}
+use Rattle.castagnoli.specs.Castagnoli as wide
 use Rattle.checksum.specs.Checksum.{rotated, wrapped, taken, word}
 use Rattle.checksum.specs.Machine.{byteStep, advance}
 use Rattle.checksum.proofs.Figures.{bytesBy, blocks}
@@ -15,15 +18,30 @@ use Rattle.format.specs.Packed.{packed, unpacked, packedAdvance, mayWait
 use Rattle.format.specs.Methods.{formatOf}
 use Rattle.format.proofs.Laws.{checksum-guard}
 
--- any number but 2 means method 1
-pub others : (formatOf 0 ≡ formatOf 1) × (formatOf 3 ≡ formatOf 1) × (formatOf 255 ≡ formatOf 1)
+-- any number but 2 and 3 means method 1
+pub others : (formatOf 0 ≡ formatOf 1) × (formatOf 4 ≡ formatOf 1) × (formatOf 255 ≡ formatOf 1)
 unfolding formatOf
 others = (refl, refl, refl)
 
--- the parity's guard is its own in method 1, and carried in method 2; there a byte waits at odd positions among the data
-pub carried : (formatOf 1 .carries ≡ false) × (formatOf 2 .carries ≡ true)
+-- bytes of data, of tag, of both, and of a guard
+abbrev lengths : ℕ → List ℕ
+lengths method = formatOf method .dataLength ∷ formatOf method .tagLength ∷ formatOf method .blockLength ∷ formatOf method .quarter ∷ []
+
+pub lengths-are : (lengths 1 ≡ 512 ∷ 8 ∷ 520 ∷ 2 ∷ []) × (lengths 2 ≡ 512 ∷ 8 ∷ 520 ∷ 2 ∷ []) × (lengths 3 ≡ 4096 ∷ 16 ∷ 4112 ∷ 4 ∷ [])
 unfolding formatOf
-carried = (refl, refl)
+lengths-are = (refl, refl, refl)
+
+-- of large blocks the register starts at all ones and holds what is there before the end step; the nine characters 123456789
+pub large-figures : (formatOf 3 .start ≡ 0xFFFFFFFF) × (formatOf 3 .guardOf 0xFFFFFFFF ≡ 0) × (formatOf 3 .reach ≡ 32)
+    × (formatOf 3 .advance 0 0xFFFFFFFF (0x31 ∷ 0x32 ∷ 0x33 ∷ 0x34 ∷ 0x35 ∷ 0x36 ∷ 0x37 ∷ 0x38 ∷ 0x39 ∷ []) ≡ 0x1CF96D7C)
+    × (formatOf 3 .guardOf 0x1CF96D7C ≡ 0xE3069283)
+unfolding formatOf wide.advance feedDown stepDown bitsUp bitsUpOf
+large-figures = (refl, refl, refl, refl, refl)
+
+-- the parity's guard is its own in method 1, and carried in method 2; there a byte waits at odd positions among the data
+pub carried : (formatOf 1 .carries ≡ false) × (formatOf 2 .carries ≡ true) × (formatOf 3 .carries ≡ false)
+unfolding formatOf
+carried = (refl, refl, refl)
 
 pub waiting : (formatOf 2 .waits 0 ≡ false) × (formatOf 2 .waits 1 ≡ true) × (formatOf 2 .waits 510 ≡ false) × (formatOf 2 .waits 511 ≡ true)
     × (formatOf 2 .waits 512 ≡ false) × (formatOf 2 .waits 513 ≡ false) × (formatOf 1 .waits 1 ≡ false)

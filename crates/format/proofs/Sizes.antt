@@ -23,26 +23,26 @@ pub xor-bytes : (n x y : ℕ) → x < 256 ^ n → y < 256 ^ n → bitXor x y < 2
 xor-bytes n x y h k = rw (pow-bytes n) (xor-lt (8 * n) x y (rw (pow-bytes n) at h) (rw (pow-bytes n) at k))
 
 module _ (F : Format) where
-  pub block-most : F .blockLength ≤ 520
+  pub block-most : F .blockLength ≤ 4112
   block-most = omega arith
 
   -- where a member's block ends, at most
-  pub block-times : (m : ℕ) → F .blockLength * m ≤ 520 * m
+  pub block-times : (m : ℕ) → F .blockLength * m ≤ 4112 * m
   block-times m = mul-le-mul-right m block-most
 
-  pub data-times : (m : ℕ) → F .dataLength * m ≤ 512 * m
+  pub data-times : (m : ℕ) → F .dataLength * m ≤ 4096 * m
   data-times m = mul-le-mul-right m (F .data-most)
 
-  power-some : 0 < 256 ^ F .quarter
+  pub power-some : 0 < 256 ^ F .quarter
   power-some = omega (arith, pow-le-pow-right {n = 256} (lit< tt) {i = 2} {j = F .quarter} (F .quarter-least))
 
-  power-most : 256 ^ F .quarter ≤ 65536
-  power-most = pow-le-pow-right {n = 256} (lit< tt) {i = F .quarter} {j = 2} (omega arith)
+  power-most : 256 ^ F .quarter ≤ 4294967296
+  power-most = pow-le-pow-right {n = 256} (lit< tt) {i = F .quarter} {j = 4} (omega arith)
 
   pub scale-some : 0 < F .scale
   scale-some = omega (arith, power-some, F .scaled)
 
-  pub scale-most : F .scale ≤ 1
+  pub scale-most : F .scale ≤ 65536
   scale-most = omega (arith, power-most, F .scaled)
 
   pub application-small : (x : ℕ) → x < 65536 → x * F .scale < 256 ^ F .quarter

@@ -9,10 +9,18 @@ use Rattle.xor.specs.Xors.{xors}
 
 -- the most bytes that a block's data have in any format, and the tags of sixteen blocks
 abbrev pub mostData : ℕ
-mostData = 512
+mostData = 4096
 
 abbrev pub mostTags : ℕ
-mostTags = 128
+mostTags = 256
+
+-- sixteen blocks of any format
+abbrev pub mostStripe : ℕ
+mostStripe = 65792
+
+-- the bytes of a piece: the data of every format are whole pieces
+abbrev pub pieceLength : ℕ
+pieceLength = 512
 
 -- the lengths of a block's data and tag; the guard: a register, where it starts, how it goes on over bytes from a position of the
 -- block, and the guard that it gives at the end; and the laws that every format keeps
@@ -46,8 +54,7 @@ pub record Format : Type 0 where
   pub block-parts : blockLength ≡ dataLength + tagLength
   pub tag-quarters : tagLength ≡ 4 * quarter
   pub data-most : dataLength ≤ mostData
-  -- data are whole pieces of 512 bytes
-  pub data-pieces : dataLength % 512 ≡ 0
+  pub data-pieces : dataLength % pieceLength ≡ 0
   pub quarter-least : 2 ≤ quarter
   pub quarter-most : 64 * quarter ≤ mostTags
   pub scaled : 65536 * scale ≡ 256 ^ quarter

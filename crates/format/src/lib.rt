@@ -1,8 +1,9 @@
 // The formats of a block by their method numbers: their lengths, where a byte of a block goes, and their guards. Method 1 has the CRC, method 2 the
-// checksum; any other number means method 1.
+// checksum, method 3 large blocks with CRC-32C; any other number means method 1.
 mod packing;
 mod positions;
 
+pub use packing::most_value;
 pub use packing::register_of;
 pub use packing::value_in;
 pub use packing::waiting_in;
@@ -10,7 +11,7 @@ pub use positions::data_room;
 pub use positions::part_at;
 pub use positions::tag_place;
 ghost use mathlib.Core.Path.{_≡_};
-ghost use Prim.Native.Nat.{_*_, _/_};
+ghost use Prim.Native.Nat.{_*_, _/_, _%_};
 ghost use Rattle.format.specs.Formats.{guard, settled, guardsOf};
 ghost use Rattle.format.specs.Methods.{formatOf};
 use packing::packed;
@@ -19,10 +20,22 @@ use packing::unpacked;
 // The method whose guard is the checksum.
 const CHECKSUM: u8 = 2;
 
-// The most bytes of data, and of the tags of sixteen blocks, that any format has: room for those of each.
-pub const MOST_DATA: usize = 512;
+// That whose blocks are large.
+const LARGE: u8 = 3;
 
-pub const MOST_TAGS: usize = 128;
+// By it, the guard of a block of zeros.
+const BLANK: u32 = 0x98F94189;
+
+// The most bytes of data, and of the tags of sixteen blocks, that any format has: room for those of each.
+pub const MOST_DATA: usize = 4096;
+
+pub const MOST_TAGS: usize = 256;
+
+// Bytes of a tag in most formats.
+pub const USUAL_TAG: usize = 8;
+
+// Bytes of a piece: data are whole pieces, in every format.
+pub const PIECE: usize = 512;
 
 // What a byte of a block is, with its place among the bytes of its kind.
 pub enum Part {
@@ -37,31 +50,34 @@ pub enum Part {
 pub fn data_length(method: u8) -> usize
     ensures { λ r. ⌜ r ≡ formatOf method .dataLength ⌝ }
 {
-    512
+    if method == LARGE { 4096 } else { 512 }
 }
 
 pub fn tag_length(method: u8) -> usize
     ensures { λ r. ⌜ r ≡ formatOf method .tagLength ⌝ }
 {
-    8
+    if method == LARGE { 16 } else { 8 }
 }
 
 pub fn block_length(method: u8) -> usize
     ensures { λ r. ⌜ r ≡ formatOf method .blockLength ⌝ }
 {
-    520
+    if method == LARGE { 4112 } else { 520 }
 }
 
 pub fn quarter(method: u8) -> usize
     ensures { λ r. ⌜ r ≡ formatOf method .quarter ⌝ }
 {
-    2
+    if method == LARGE { 4 } else { 2 }
 }
 
 // An application tag of two bytes, as the number that its field holds.
 pub fn scaled(method: u8, application: u16) -> u64
     ensures { λ r. ⌜ r ≡ application * formatOf method .scale ⌝ }
 {
+    if method == LARGE {
+        return application as u64 * 65536;
+    }
     application as u64
 }
 
@@ -69,6 +85,9 @@ pub fn scaled(method: u8, application: u16) -> u64
 pub fn unscaled(method: u8, application: u64) -> u64
     ensures { λ r. ⌜ r ≡ application / formatOf method .scale ⌝ }
 {
+    if method == LARGE {
+        return application / 65536;
+    }
     application
 }
 
@@ -79,10 +98,20 @@ pub fn carries(method: u8) -> bool
     method == CHECKSUM
 }
 
+// The guard of a large block of zeros for an odd number of members, nothing for an even one.
+fn blank_if_odd(members: usize) -> u32
+    ensures { λ r. ⌜ r ≡ 0x98F94189 * (members % 2) ⌝ }
+{
+    if members % 2 == 0 { 0 } else { BLANK }
+}
+
 // What the guards in the tags of so many members combine to where their data combine to zero.
 pub fn settled(method: u8, members: usize) -> u32
     ensures { λ r. ⌜ r ≡ settled (formatOf method) members ⌝ }
 {
+    if method == LARGE {
+        return blank_if_odd(members);
+    }
     0
 }
 
@@ -102,6 +131,9 @@ pub fn guard(method: u8, bytes: &[u8]) -> u32
 {
     if method == CHECKSUM {
         return checksum::checksum(bytes) as u32;
+    }
+    if method == LARGE {
+        return castagnoli_fold::crc32c(bytes);
     }
     fold::guard(bytes) as u32
 }
@@ -126,6 +158,9 @@ pub fn guards(method: u8, bytes: &[u8], stride: usize) -> [u32; 16]
     if method == CHECKSUM {
         return widened(checksum::checksums(bytes, stride));
     }
+    if method == LARGE {
+        return castagnoli_fold::guards(bytes, stride);
+    }
     widened(fold::guards(bytes, stride))
 }
 
@@ -133,7 +168,14 @@ pub fn guards(method: u8, bytes: &[u8], stride: usize) -> [u32; 16]
 pub fn start(method: u8) -> u32
     ensures { λ r. ⌜ r ≡ formatOf method .start ⌝ }
 {
-    if method == CHECKSUM { 0xFFFF } else { 0 }
+    if method == CHECKSUM {
+        return 0xFFFF;
+    }
+    if method == LARGE {
+        castagnoli::start()
+    } else {
+        0
+    }
 }
 
 // A register after bytes of data from a position on. Where there are none it stays, also one that is past the method's limit.
@@ -146,6 +188,9 @@ pub fn advance(method: u8, at: usize, register: u32, bytes: &[u8]) -> u32
     if method == CHECKSUM {
         return packed(checksum::advance(at, unpacked(register), bytes));
     }
+    if method == LARGE {
+        return castagnoli_fold::advance(register, bytes);
+    }
     fold::run((register % 65536) as u16, bytes) as u32
 }
 
@@ -154,8 +199,10 @@ pub fn guard_of(method: u8, register: u32) -> u32
     ensures { λ r. ⌜ r ≡ formatOf method .guardOf register ⌝ }
 {
     if method == CHECKSUM {
-        register % 65536
-    } else {
-        register
+        return register % 65536;
     }
+    if method == LARGE {
+        return castagnoli::guard_of(register);
+    }
+    register
 }

@@ -2,16 +2,39 @@
 ghost use mathlib.Core.Path.{_≡_};
 ghost use Prim.Native.Nat.{_-_, min};
 ghost use Rattle.format.specs.Positions.{partAt};
-ghost use Rattle.format.specs.Methods.{formatOf};
+ghost use Rattle.format.specs.Methods.{large, formatOf};
+use crate::LARGE;
 use crate::Part;
 use crate::data_length;
 use crate::quarter;
 use crate::tag_length;
 
+// What the byte at a position of a large block is.
+fn part_at_large(position: usize) -> Part
+    ensures { λ r. ⌜ r ≡ partAt large position ⌝ }
+{
+    match position {
+        0..=4095 => Part::Data { at: position },
+        4096..=4099 => Part::Guard {
+            at: position - 4096,
+        },
+        4100..=4103 => Part::Application {
+            at: position - 4100,
+        },
+        4104..=4111 => Part::Reference {
+            at: position - 4104,
+        },
+        _ => Part::Past,
+    }
+}
+
 // What the byte at a position is.
 pub fn part_at(method: u8, position: usize) -> Part
     ensures { λ r. ⌜ r ≡ partAt (formatOf method) position ⌝ }
 {
+    if method == LARGE {
+        return part_at_large(position);
+    }
     match position {
         0..=511 => Part::Data { at: position },
         512..=513 => Part::Guard { at: position - 512 },

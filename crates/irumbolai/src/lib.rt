@@ -102,7 +102,7 @@ pub struct ScanState {
     pub method: u8,
     pub stripe: u64,
     pub at: [u16; 16],
-    pub register: [u16; 16],
+    pub register: [u32; 16],
     pub waiting: [u8; 16],
     pub tag: [u8; MOST_TAGS],
 }

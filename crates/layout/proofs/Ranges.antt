@@ -35,7 +35,7 @@ array-sound a e =
     let i = refuse-none (stripesFit a) 1 (refuse (not (methodFit a)) 12 0) (h .1) in
     let m = within-range 3 16 (a .members) (h .0) in
     let s = within-range 1 268435456 (a .stripes) (i .0) in
-    let k = within-range 1 2 (a .method) (refuse-none (methodFit a) 11 0 (i .1) .0) in
+    let k = within-range 1 3 (a .method) (refuse-none (methodFit a) 11 0 (i .1) .0) in
     record { few = m .0; many = m .1; some = s .0; most = s .1; method-least = k .0; method-most = k .1 }
 
 pub sound-array : (a : Array) → Sound a → arrayRefusal a ≡ 0
@@ -44,7 +44,7 @@ sound-array a h =
     rw (
       range-within 3 16 (a .members) (h .few) (h .many),
       range-within 1 268435456 (a .stripes) (h .some) (h .most),
-      range-within 1 2 (a .method) (h .method-least) (h .method-most),
+      range-within 1 3 (a .method) (h .method-least) (h .method-most),
     )
 
 pub stripe-sound : (a : Array) (stripe : ℕ) → stripeRefusal a stripe ≡ 0 → SoundStripe a stripe

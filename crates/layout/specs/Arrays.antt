@@ -24,9 +24,9 @@ membersFit a = within 3 16 (a .members)
 abbrev pub stripesFit : Array → Bool
 stripesFit a = within 1 268435456 (a .stripes)
 
--- the guard method: 1 the CRC, 2 the checksum
+-- the guard method: 1 the CRC, 2 the checksum, 3 large blocks with CRC-32C
 abbrev pub methodFit : Array → Bool
-methodFit a = within 1 2 (a .method)
+methodFit a = within 1 3 (a .method)
 
 -- the refusal number of the array's own numbers
 unfoldable pub arrayRefusal : Array → ℕ

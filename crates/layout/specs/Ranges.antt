@@ -10,7 +10,7 @@ pub record Sound (a : Array) : Type 0 where
   pub some : 1 ≤ a .stripes
   pub most : a .stripes ≤ 268435456
   pub method-least : 1 ≤ a .method
-  pub method-most : a .method ≤ 2
+  pub method-most : a .method ≤ 3
 
 -- and a stripe, a block, a place of it are
 pub record SoundStripe (a : Array) (stripe : ℕ) : Type 0 where

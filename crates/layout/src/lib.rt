@@ -64,7 +64,7 @@ const MOST_MEMBERS: u64 = 16;
 
 const MOST_STRIPES: u64 = 268435456;
 
-const MOST_METHODS: u64 = 2;
+const MOST_METHODS: u64 = 3;
 
 // x lies between low and high, both included.
 fn is_within(low: u64, high: u64, x: u64) -> bool
@@ -194,14 +194,12 @@ pub fn place(array: Array, block: u64) -> Placed
     Placed::At { stripe, member }
 }
 
-// What lies at a place, where that member holds the stripe's parity. To find it takes a division, so it is found once a stripe.
+// What lies at a place of the array, where that member holds the stripe's parity. To find it takes a division, so it is found once a stripe;
+// and the place is tested once.
 pub fn owner_beside(array: Array, stripe: u64, parity: usize, member: usize) -> Owned
+    requires { ⌜ ownerRefusal array stripe member ≡ 0 ⌝ }
     ensures { λ r. ⌜ ownedNumbers r ≡ ownerBesideNumbers array stripe parity member ⌝ }
 {
-    let refusal = owner_refusal(array, stripe, member);
-    if refusal != 0 {
-        return Owned::Refused(refusal);
-    }
     let lowest = stripe * data_members(array);
     if member == parity {
         return Owned::Parity { lowest };
@@ -215,6 +213,10 @@ pub fn owner_beside(array: Array, stripe: u64, parity: usize, member: usize) -> 
 pub fn owner(array: Array, stripe: u64, member: usize) -> Owned
     ensures { λ r. ⌜ ownedNumbers r ≡ ownerNumbers array stripe member ⌝ }
 {
+    let refusal = owner_refusal(array, stripe, member);
+    if refusal != 0 {
+        return Owned::Refused(refusal);
+    }
     owner_beside(array, stripe, parity_member(array, stripe), member)
 }
 

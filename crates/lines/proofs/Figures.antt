@@ -115,20 +115,24 @@ pub second-header-accepted : headerRefusal secondHeader ≡ 0
 unfolding headerRefusal formOf formSize arrayRefusal arrayIn later numberOf
 second-header-accepted = refl
 
--- method 1 can be said too; methods 0 and 3 are refused, behind all else
+-- methods 1 and 3 can be said too; methods 0 and 4 are refused, behind all else
 pub second-header-methods : headerRefusal (0x00 ∷ 0x08 ∷ 0x02 ∷ 0x03 ∷ 0x05 ∷ 0x01 ∷ 0x02 ∷ 0x04 ∷ 0x06 ∷ 0x01 ∷ []) ≡ 0
 unfolding headerRefusal formOf formSize arrayRefusal arrayIn later numberOf
 second-header-methods = refl
+
+pub method-three-accepted : headerRefusal (0x00 ∷ 0x08 ∷ 0x02 ∷ 0x03 ∷ 0x05 ∷ 0x01 ∷ 0x02 ∷ 0x04 ∷ 0x06 ∷ 0x03 ∷ []) ≡ 0
+unfolding headerRefusal formOf formSize arrayRefusal arrayIn later numberOf
+method-three-accepted = refl
 
 pub method-none-refused : headerRefusal (0x00 ∷ 0x08 ∷ 0x02 ∷ 0x03 ∷ 0x05 ∷ 0x01 ∷ 0x02 ∷ 0x04 ∷ 0x06 ∷ 0x00 ∷ []) ≡ 12
 unfolding headerRefusal formOf formSize arrayRefusal arrayIn later numberOf
 method-none-refused = refl
 
-pub method-three-refused : headerRefusal (0x00 ∷ 0x08 ∷ 0x02 ∷ 0x03 ∷ 0x05 ∷ 0x01 ∷ 0x02 ∷ 0x04 ∷ 0x06 ∷ 0x03 ∷ []) ≡ 12
+pub method-four-refused : headerRefusal (0x00 ∷ 0x08 ∷ 0x02 ∷ 0x03 ∷ 0x05 ∷ 0x01 ∷ 0x02 ∷ 0x04 ∷ 0x06 ∷ 0x04 ∷ []) ≡ 12
 unfolding headerRefusal formOf formSize arrayRefusal arrayIn later numberOf
-method-three-refused = refl
+method-four-refused = refl
 
-pub stripes-before-method : headerRefusal (0x00 ∷ 0x08 ∷ 0x02 ∷ 0x03 ∷ 0x05 ∷ 0x00 ∷ 0x00 ∷ 0x00 ∷ 0x00 ∷ 0x03 ∷ []) ≡ 2
+pub stripes-before-method : headerRefusal (0x00 ∷ 0x08 ∷ 0x02 ∷ 0x03 ∷ 0x05 ∷ 0x00 ∷ 0x00 ∷ 0x00 ∷ 0x00 ∷ 0x04 ∷ []) ≡ 2
 unfolding headerRefusal formOf formSize arrayRefusal arrayIn later numberOf
 stripes-before-method = refl
 

@@ -14,7 +14,7 @@ use Rattle.layout.specs.Arrays.{stripeRefusal}
 use Rattle.layout.specs.declared.Array.{Array}
 use Rattle.layout.proofs.Ranges.{sound-stripe}
 use Rattle.tag.specs.Blocks.{formatAt}
-use Rattle.scan.specs.Scans.{startState, startWork}
+use Rattle.scan.specs.Scans.{startWork}
 use Rattle.lines.specs.Text.{scrubWord}
 use Rattle.lines.specs.Lines.{firstLine, refusedLine}
 use Rattle.lines.specs.Headers.{headerRoom, headerSize, arrayIn, headerRefusal}
@@ -22,9 +22,9 @@ use Rattle.lines.proofs.Lines.{first-line-fits, refused-line-fits}
 use Rattle.lines.proofs.Headers.{size-least, size-most, size-stays, header-sound}
 use Rattle.report.specs.declared.Report.{Report}
 use Rattle.report.specs.Reports.{none, stripeLines, reportOf}
-use Rattle.report.specs.Feeding.{workLength, holding, entering, ended, headerCame, headerWhole, headerHeld, headerTook, freshReport}
+use Rattle.report.specs.Feeding.{workLength, front, begunScan, begunWork, holding, entering, ended, headerCame, headerWhole, headerHeld, headerTook, freshReport}
 use Rattle.report.proofs.Blocks.{stripe-some}
-use Rattle.report.proofs.Scanning.{work-fits, scan-starts}
+use Rattle.report.proofs.Scanning.{fronted-long, scan-starts}
 use Rattle.report.proofs.Stages.{inHeader, inStripe, over, StandsInHeader, StandsInStripe, Leads}
 use Rattle.report.proofs.Storing.{stored}
 
@@ -50,7 +50,7 @@ module _ (used : ℕ) (r : Report) (w h : List ℕ) (came : headerCame r ≡ h) 
   begins rest = rw (whole rest, take-at h rest (length h) refl, drop-at h rest (length h) refl)
 
   accepted : headerRefusal h ≡ 0
-      → StandsInStripe (arrayIn h) 0 none [] (entering 1 (r .header) (startState (arrayIn h) 0 (length w)) none) (startWork (arrayIn h) 0 w)
+      → StandsInStripe (arrayIn h) 0 none [] (entering 1 (r .header) (begunScan (arrayIn h) 0 w) none) (begunWork (arrayIn h) 0 w)
   accepted e =
       let a = arrayIn h in
       let range = header-sound h e in
@@ -62,7 +62,8 @@ module _ (used : ℕ) (r : Report) (w h : List ℕ) (came : headerCame r ≡ h) 
         sound = sound;
         tally = refl;
         counted = record { clean = zero-le; bad = zero-le; unchecked = zero-le; torn = zero-le };
-        scanned = scan-starts a 0 sound w (work-fits a w work);
+        work = fronted-long w (startWork a 0 (front a w)) work;
+        scanned = scan-starts a 0 sound w work;
       }
 
   pub whole-header-leads : Leads (λ rest. reportOf (h ++ rest)) used (headerWhole used r w)
@@ -77,7 +78,7 @@ module _ (used : ℕ) (r : Report) (w h : List ℕ) (came : headerCame r ≡ h) 
 
       go : (f : Bool) → eqb refusal 0 ≡ f
           → Leads (λ rest. reportOf (h ++ rest)) used
-          (cond f (record { used = used; state = entering 1 (r .header) (startState a 0 (length w)) none; work = startWork a 0 w; line = firstLine a })
+          (cond f (record { used = used; state = entering 1 (r .header) (begunScan a 0 w) none; work = begunWork a 0 w; line = firstLine a })
           (record { used = used; state = ended r; work = w; line = refusedLine refusal }))
       go true e =
           record {

@@ -4,7 +4,7 @@ use mathlib.Core.Path.{_≡_, sym}
 use Prim.Native.Nat.{ℕ, _+_, _*_, _/_, _%_, _≤_, _<_}
 use native.Mathlib.Nat.{mod-lt, div-add-mod, div-lt-iff-lt-mul, mul-comm}
 use native.Mathlib.Omega.{arith}
-use Rattle.format.specs.Formats.{Format}
+use Rattle.format.specs.Formats.{Format, mostStripe}
 use Rattle.format.proofs.Sizes.{times-next, block-times}
 
 module _ (F : Format) where
@@ -15,7 +15,7 @@ module _ (F : Format) where
   stripe-some n h = omega (arith, times-next (F .blockLength) 0 n h)
 
   -- sixteen blocks at most
-  pub stripe-most : (n : ℕ) → n ≤ 16 → F .blockLength * n ≤ 65536
+  pub stripe-most : (n : ℕ) → n ≤ 16 → F .blockLength * n ≤ mostStripe
   stripe-most n h = omega (arith, block-times F n)
 
   module _ (have : ℕ) where

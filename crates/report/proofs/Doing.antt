@@ -11,7 +11,6 @@ use lib.ListN.{length, take, length-take}
 use lib.Seq.{sets}
 use Rattle.layout.specs.declared.Array.{Array}
 use Rattle.scan.specs.declared.Scan.{Scan}
-use Rattle.scan.specs.Scans.{startState, startWork}
 use Rattle.lines.specs.Text.{Written}
 use Rattle.lines.specs.Lines.{lineRoom, firstLine, refusedLine, totalLine}
 use Rattle.lines.specs.Headers.{headerRoom, headerSize, arrayIn, headerRefusal}
@@ -21,7 +20,7 @@ use Rattle.report.specs.declared.Report.{Report}
 use Rattle.report.specs.declared.Fed.{Fed}
 use Rattle.report.specs.Reports.{none}
 use Rattle.report.proofs.Choosing.{without-room, without-input, in-the-header, behind-the-last}
-use Rattle.report.specs.Feeding.{Step, Does, holding, entering, ended, headerCame, headerWhole, headerHeld, headerTook, headerLacks, stripeFit, blockLacks, stripeTook, skipped, stageStep, feedStep, tallyOf, closeLine}
+use Rattle.report.specs.Feeding.{Step, Does, begunScan, begunWork, holding, entering, ended, headerCame, headerWhole, headerHeld, headerTook, headerLacks, stripeFit, blockLacks, stripeTook, skipped, stageStep, feedStep, tallyOf, closeLine}
 
 -- a call that does a step does any that equals it
 pub does-same : {s t : Step} {a : Fed} {w o p : List ℕ} → s ≡ t → Does t a w o p → Does s a w o p
@@ -50,14 +49,14 @@ module _ (used : ℕ) (r : Report) (w o p : List ℕ) (refusal n : ℕ) (s : Rep
       (with-line used s (ended r) w w (refusedLine (headerRefusal (headerCame r))) o p n e refl (rw (sym told) written))
 
   pub header-accepted : (a : Array) (scan : Scan) (v : List ℕ) → length (r .header) ≡ headerRoom → refusal ≡ 0 → a ≡ arrayIn (r .header) → Written o 0 (firstLine a) p n
-      → scan ≡ startState a 0 (length w) → v ≡ startWork a 0 w → s ≡ entering 1 (r .header) scan none
+      → scan ≡ begunScan a 0 w → v ≡ begunWork a 0 w → s ≡ entering 1 (r .header) scan none
       → Does (headerWhole used r w) (record { state = s; used = used; written = n }) v o p
   unfolding headerWhole
   header-accepted a scan v long z same written begun f e =
       let state = e ∙ ap (λ (x : Scan). entering 1 (r .header) x none) begun in
       let taken = sym told ∙ z in
       rw (eq-eqb (headerRefusal (headerCame r)) 0 taken, array-there (r .header) (r .have) long taken, sym same)
-      (with-line used s (entering 1 (r .header) (startState a 0 (length w)) none) v (startWork a 0 w) (firstLine a) o p n state f written)
+      (with-line used s (entering 1 (r .header) (begunScan a 0 w) none) v (begunWork a 0 w) (firstLine a) o p n state f written)
 
 module _ (r : Report) (bytes w : List ℕ) (held : Report)
     (told : held ≡ holding r (sets (r .header) (r .have) bytes) (r .have + length bytes) (r .scan)) where

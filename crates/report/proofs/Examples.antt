@@ -46,7 +46,7 @@ unfolding reportOf headerRefusal formOf formSize arrayRefusal arrayIn later numb
 no-stripes = refl
 
 -- a method that there is not, "REFUSED 12"
-no-such-method : reportOf (0 ∷ 8 ∷ 2 ∷ 3 ∷ 7 ∷ 0 ∷ 0 ∷ 0 ∷ 1 ∷ 3 ∷ []) ≡ 0x52 ∷ 0x45 ∷ 0x46 ∷ 0x55 ∷ 0x53 ∷ 0x45 ∷ 0x44 ∷ 0x20 ∷ 0x31 ∷ 0x32 ∷ 0x0A ∷ []
+no-such-method : reportOf (0 ∷ 8 ∷ 2 ∷ 3 ∷ 7 ∷ 0 ∷ 0 ∷ 0 ∷ 1 ∷ 4 ∷ []) ≡ 0x52 ∷ 0x45 ∷ 0x46 ∷ 0x55 ∷ 0x53 ∷ 0x45 ∷ 0x44 ∷ 0x20 ∷ 0x31 ∷ 0x32 ∷ 0x0A ∷ []
 unfolding reportOf headerRefusal formOf formSize arrayRefusal arrayIn later numberOf refusedLine refusedWord decimal
 no-such-method = refl
 

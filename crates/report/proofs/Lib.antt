@@ -9,6 +9,7 @@ pub mod Striping
 pub mod Choosing
 pub mod Within
 pub mod Doing
+pub mod Fronts
 pub mod Stepping
 pub mod Closing
 pub mod FitStates

@@ -50,6 +50,7 @@ pub record StandsInStripe (a : Array) (stripe : ℕ) (t : Tally) (h : List ℕ) 
   pub sound : stripeRefusal a stripe ≡ 0
   pub tally : tallyOf r ≡ t
   pub counted : Counted stripe t
+  pub work : length w ≡ workLength
   pub scanned : Scanned a stripe h (r .scan) w
 
 pub record StandsBehind (a : Array) (t : Tally) (r : Report) : Type 0 where

@@ -11,14 +11,13 @@ use Rattle.verdict.specs.declared.Scrubbed.the-variants.{Refused, Found}
 use Rattle.verdict.specs.Verdicts.{verdictNumbers, scrubbedNumbers}
 use Rattle.stripe.specs.Stripes.{stripeLength}
 use Rattle.scan.specs.declared.Scan.{Scan}
-use Rattle.scan.specs.Scans.{startState, startWork, pieceState, pieceWork, finishNumbers}
 use Rattle.lines.specs.Text.{Written}
 use Rattle.lines.specs.Lines.{stripeLine, refusedLine, Tally}
 use Rattle.lines.proofs.Texts.{line-long}
 use Rattle.report.specs.declared.Report.{Report}
 use Rattle.report.specs.declared.Fed.{Fed}
 use Rattle.report.specs.Reports.{counted}
-use Rattle.report.specs.Feeding.{Step, Does, tallyOf, holding, entering, ended, stripeJudged, stripeWhole, memberNow, stripeTook}
+use Rattle.report.specs.Feeding.{Step, Does, begunScan, begunWork, tookScan, tookWork, judgement, tallyOf, holding, entering, ended, stripeJudged, stripeWhole, memberNow, stripeTook}
 
 module _ (used : ℕ) (r : Report) (w : List ℕ) where
   -- ---- the stripe has its verdict
@@ -27,7 +26,7 @@ module _ (used : ℕ) (r : Report) (w : List ℕ) where
       {t : Tally} (tally : t ≡ counted (tallyOf r) v) {state : Report} where
     -- another comes after it
     pub next-begins : r .scan .stripe + 1 < r .scan .array .stripes → {scan : Scan} {w′ : List ℕ}
-        → scan ≡ startState (r .scan .array) (r .scan .stripe + 1) (length w) → w′ ≡ startWork (r .scan .array) (r .scan .stripe + 1) w
+        → scan ≡ begunScan (r .scan .array) (r .scan .stripe + 1) w → w′ ≡ begunWork (r .scan .array) (r .scan .stripe + 1) w
         → state ≡ entering 1 (r .header) scan t
         → Does (stripeJudged used r w v) (record { state = state; used = used; written = written }) w′ out out′
     unfolding stripeJudged
@@ -86,17 +85,17 @@ module _ (used : ℕ) (r : Report) (w : List ℕ) where
 
 module _ (r : Report) (bytes w : List ℕ) {member size : ℕ} (there : member ≡ memberNow r) (long : size ≡ stripeLength (r .scan .array))
     {scan : Scan} {w′ : List ℕ} {held : Report}
-    (scanned : scan ≡ pieceState (r .scan) member bytes (length w)) (combined : w′ ≡ pieceWork (r .scan) member bytes w)
+    (scanned : scan ≡ tookScan (r .scan) member bytes w) (combined : w′ ≡ tookWork (r .scan) member bytes w)
     (holds : held ≡ holding r (r .header) (r .have + length bytes) scan) where
   -- the state and the buffer as the specification has them
   abbrev due : Report
-  due = holding r (r .header) (r .have + length bytes) (pieceState (r .scan) (memberNow r) bytes (length w))
+  due = holding r (r .header) (r .have + length bytes) (tookScan (r .scan) (memberNow r) bytes w)
 
   held-due : held ≡ due
-  held-due = holds ∙ ap (holding r (r .header) (r .have + length bytes)) (scanned ∙ ap (λ (m : ℕ). pieceState (r .scan) m bytes (length w)) there)
+  held-due = holds ∙ ap (holding r (r .header) (r .have + length bytes)) (scanned ∙ ap (λ (m : ℕ). tookScan (r .scan) m bytes w) there)
 
-  combined-due : w′ ≡ pieceWork (r .scan) (memberNow r) bytes w
-  combined-due = combined ∙ ap (λ (m : ℕ). pieceWork (r .scan) m bytes w) there
+  combined-due : w′ ≡ tookWork (r .scan) (memberNow r) bytes w
+  combined-due = combined ∙ ap (λ (m : ℕ). tookWork (r .scan) m bytes w) there
 
   pub still-short : r .have + length bytes < size → {out : List ℕ}
       → Does (stripeTook r bytes w) (record { state = held; used = length bytes; written = 0 }) w′ out out
@@ -106,9 +105,9 @@ module _ (r : Report) (bytes w : List ℕ) {member size : ℕ} (there : member �
       record { uses = refl; leaves = held-due; writes = refl; combines = combined-due; shows = refl }
 
   pub now-whole : size ≤ r .have + length bytes → {out out′ last : List ℕ} {fed : Fed}
-      → Does (stripeWhole (length bytes) held w′ (finishNumbers (held .scan) w′)) fed last out out′ → Does (stripeTook r bytes w) fed last out out′
+      → Does (stripeWhole (length bytes) held w′ (judgement (held .scan) w′)) fed last out out′ → Does (stripeTook r bytes w) fed last out out′
   unfolding stripeTook
   now-whole l {out = out} {out′ = out′} {last = last} {fed = fed} did =
       rw (le-ltb (r .have + length bytes) (stripeLength (r .scan .array)) (omega (arith, long)))
       (subst (λ (s : Step). Does s fed last out out′)
-      (ap₂ (λ (h : Report) (x : List ℕ). stripeWhole (length bytes) h x (finishNumbers (h .scan) x)) held-due combined-due) did)
+      (ap₂ (λ (h : Report) (x : List ℕ). stripeWhole (length bytes) h x (judgement (h .scan) x)) held-due combined-due) did)

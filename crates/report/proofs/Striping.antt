@@ -15,14 +15,14 @@ use Rattle.layout.proofs.Ranges.{stripe-sound, sound-stripe}
 use Rattle.tag.specs.Blocks.{formatAt}
 use Rattle.stripe.specs.Stripes.{stripeLength}
 use Rattle.scan.specs.declared.Scan.{Scan}
-use Rattle.scan.specs.Scans.{startState, startWork, pieceState, pieceWork, finishNumbers}
+use Rattle.scan.specs.Scans.{startWork, pieceWork}
 use Rattle.lines.specs.Lines.{stripeLine, Tally}
 use Rattle.lines.proofs.Lines.{stripe-line-fits}
 use Rattle.report.specs.declared.Report.{Report}
 use Rattle.report.specs.Reports.{counted, verdictOf, stripeLines}
-use Rattle.report.specs.Feeding.{Step, tallyOf, holding, entering, stripeFit, stripeJudged, stripeWhole, memberNow, stripeTook}
+use Rattle.report.specs.Feeding.{Step, workLength, front, begunScan, begunWork, tookScan, tookWork, judgement, tallyOf, holding, entering, stripeFit, stripeJudged, stripeWhole, memberNow, stripeTook}
 use Rattle.report.proofs.Blocks.{stripe-some, blocks-and-rest, block-there, block-ends}
-use Rattle.report.proofs.Scanning.{Scanned, scan-starts, scan-goes-on, scan-judges, work-stays-long}
+use Rattle.report.proofs.Scanning.{Scanned, fronted-long, scan-starts, scan-goes-on, scan-judges}
 use Rattle.report.proofs.Stages.{inStripe, behind, toSay, Counted, StandsInStripe, Leads}
 use Rattle.report.proofs.Counting.{one-more-counted}
 
@@ -43,11 +43,11 @@ module _ (a : Array) (stripe : ℕ) (t : Tally) (here : stripe < a .stripes) whe
 -- ---- the stripe is whole
 
 module _ (used : ℕ) (a : Array) (stripe : ℕ) (sound : stripeRefusal a stripe ≡ 0) (t : Tally) (h : List ℕ) (r : Report) (w : List ℕ)
-    (tally : tallyOf r ≡ t) (few : Counted stripe t) (scanned : Scanned a stripe h (r .scan) w) (full : length h ≡ stripeLength a) where
+    (tally : tallyOf r ≡ t) (few : Counted stripe t) (long : length w ≡ workLength) (scanned : Scanned a stripe h (r .scan) w) (full : length h ≡ stripeLength a) where
   -- the next one begins
   next-stands : stripe + 1 < a .stripes
       → StandsInStripe a (stripe + 1) (counted t (verdictOf a stripe h)) []
-      (entering 1 (r .header) (startState a (stripe + 1) (length w)) (counted t (verdictOf a stripe h))) (startWork a (stripe + 1) w)
+      (entering 1 (r .header) (begunScan a (stripe + 1) w) (counted t (verdictOf a stripe h))) (begunWork a (stripe + 1) w)
   next-stands l =
       let range = stripe-sound a stripe sound in
       let on : stripeRefusal a (stripe + 1) ≡ 0 = sound-stripe a (stripe + 1) (record { array = range .array; here = l }) in
@@ -58,7 +58,8 @@ module _ (used : ℕ) (a : Array) (stripe : ℕ) (sound : stripeRefusal a stripe
         sound = on;
         tally = refl;
         counted = one-more-counted stripe t (verdictOf a stripe h) few;
-        scanned = scan-starts a (stripe + 1) on w (work-stays-long a stripe sound (r .scan) w h scanned);
+        work = fronted-long w (startWork a (stripe + 1) (front a w)) long;
+        scanned = scan-starts a (stripe + 1) on w long;
       }
 
   -- the step as it is for these numbers of the array, the stripe and the counts
@@ -67,8 +68,8 @@ module _ (used : ℕ) (a : Array) (stripe : ℕ) (sound : stripeRefusal a stripe
       cond (ltb (s + 1) (b .stripes))
       (record {
         used = used;
-        state = entering 1 (r .header) (startState b (s + 1) (length w)) (counted k (verdictOf a stripe h));
-        work = startWork b (s + 1) w;
+        state = entering 1 (r .header) (begunScan b (s + 1) w) (counted k (verdictOf a stripe h));
+        work = begunWork b (s + 1) w;
         line = stripeLine s (verdictOf a stripe h);
       })
       (record {
@@ -99,7 +100,7 @@ module _ (used : ℕ) (a : Array) (stripe : ℕ) (sound : stripeRefusal a stripe
 
       go : (f : Bool) → ltb (stripe + 1) (a .stripes) ≡ f
           → Leads (toSay (inStripe a stripe t h)) used
-          (cond f (record { used = used; state = entering 1 (r .header) (startState a (stripe + 1) (length w)) next; work = startWork a (stripe + 1) w; line = line })
+          (cond f (record { used = used; state = entering 1 (r .header) (begunScan a (stripe + 1) w) next; work = begunWork a (stripe + 1) w; line = line })
           (record { used = used; state = entering 2 (r .header) (r .scan) next; work = w; line = line }))
       go true e =
           record {
@@ -119,9 +120,9 @@ module _ (used : ℕ) (a : Array) (stripe : ℕ) (sound : stripeRefusal a stripe
             short = stripe-line-fits stripe (verdictOf a stripe h);
           }
 
-  pub whole-stripe-leads : Leads (toSay (inStripe a stripe t h)) used (stripeWhole used r w (finishNumbers (r .scan) w))
+  pub whole-stripe-leads : Leads (toSay (inStripe a stripe t h)) used (stripeWhole used r w (judgement (r .scan) w))
   unfolding stripeWhole
-  whole-stripe-leads = rw (scan-judges a stripe sound (r .scan) w h scanned full) judged-leads
+  whole-stripe-leads = rw (scan-judges a stripe sound w long (r .scan) h scanned full) judged-leads
 
 -- ---- bytes of the stripe
 
@@ -149,10 +150,10 @@ module _ (a : Array) (stripe : ℕ) (t : Tally) (h : List ℕ) (r : Report) (w :
 
   module _ (bytes : List ℕ) (room : r .have % formatAt a .blockLength + length bytes ≤ formatAt a .blockLength) where
     abbrev scan-now : Scan
-    scan-now = pieceState (r .scan) (memberNow r) bytes (length w)
+    scan-now = tookScan (r .scan) (memberNow r) bytes w
 
     abbrev work-now : List ℕ
-    work-now = pieceWork (r .scan) (memberNow r) bytes w
+    work-now = tookWork (r .scan) (memberNow r) bytes w
 
     abbrev held : Report
     held = holding r (r .header) (r .have + length bytes) scan-now
@@ -165,9 +166,12 @@ module _ (a : Array) (stripe : ℕ) (t : Tally) (h : List ℕ) (r : Report) (w :
 
     scanned-now : Scanned a stripe (h ++ bytes) scan-now work-now
     scanned-now =
-        subst (λ (m : ℕ). Scanned a stripe (h ++ bytes) (pieceState (r .scan) m bytes (length w)) (pieceWork (r .scan) m bytes w)) there
-        (scan-goes-on a stripe (q .sound) (r .scan) w h (q .scanned) bytes (r .have / formatAt a .blockLength) (r .have % formatAt a .blockLength)
+        subst (λ (m : ℕ). Scanned a stripe (h ++ bytes) (tookScan (r .scan) m bytes w) (tookWork (r .scan) m bytes w)) there
+        (scan-goes-on a stripe (q .sound) w (q .work) (r .scan) h (q .scanned) bytes (r .have / formatAt a .blockLength) (r .have % formatAt a .blockLength)
         (sym (q .have) ∙ blocks-and-rest (formatAt a) (r .have)) room (block-there (formatAt a) (r .have) (a .members) have-short))
+
+    long-now : length work-now ≡ workLength
+    long-now = fronted-long w (pieceWork (r .scan) (memberNow r) bytes (front (r .scan .array) w)) (q .work)
 
     still-short : r .have + length bytes < stripeLength a → StandsInStripe a stripe t (h ++ bytes) held work-now
     still-short l =
@@ -178,6 +182,7 @@ module _ (a : Array) (stripe : ℕ) (t : Tally) (h : List ℕ) (r : Report) (w :
           sound = q .sound;
           tally = q .tally;
           counted = q .counted;
+          work = long-now;
           scanned = scanned-now;
         }
 
@@ -191,7 +196,7 @@ module _ (a : Array) (stripe : ℕ) (t : Tally) (h : List ℕ) (r : Report) (w :
         go : (f : Bool) → ltb (r .have + length bytes) (stripeLength (r .scan .array)) ≡ f
             → Leads (λ rest. toSay (inStripe a stripe t h) (bytes ++ rest)) (length bytes)
             (cond f (record { used = length bytes; state = held; work = work-now; line = [] })
-            (stripeWhole (length bytes) held work-now (finishNumbers scan-now work-now)))
+            (stripeWhole (length bytes) held work-now (judgement scan-now work-now)))
         go true e =
             record {
               to = inStripe a stripe t (h ++ bytes);
@@ -203,7 +208,7 @@ module _ (a : Array) (stripe : ℕ) (t : Tally) (h : List ℕ) (r : Report) (w :
         go false e =
             let full : length (h ++ bytes) ≡ stripeLength a =
             rw length-append (omega (arith, q .have, blocks-and-rest (formatAt a) (r .have), block-ends (formatAt a) (r .have) (a .members) have-short, room, size, ltb-false (r .have + length bytes) (stripeLength (r .scan .array)) e)) in
-            let l = whole-stripe-leads (length bytes) a stripe (q .sound) t (h ++ bytes) held work-now (q .tally) (q .counted) scanned-now full in
+            let l = whole-stripe-leads (length bytes) a stripe (q .sound) t (h ++ bytes) held work-now (q .tally) (q .counted) long-now scanned-now full in
             record {
               to = l .to;
               stands = l .stands;

@@ -7,7 +7,9 @@ use mathlib.Core.List.{List, []}
 use lib.Dec.{leb, ltb, eqb}
 use lib.ListN.{length, getD, take, drop, replicate}
 use lib.Seq.{sets}
+use Rattle.layout.specs.declared.Array.{Array}
 use Rattle.layout.specs.Arrays.{noArray, stripeRefusal}
+use Rattle.format.specs.Formats.{mostData}
 use Rattle.tag.specs.Blocks.{formatAt}
 use Rattle.stripe.specs.Stripes.{stripeLength}
 use Rattle.scan.specs.declared.Scan.{Scan}
@@ -18,9 +20,36 @@ use Rattle.report.specs.declared.Report.{Report}
 use Rattle.report.specs.declared.Fed.{Fed}
 use Rattle.report.specs.Reports.{none, counted}
 
--- the bytes of a work buffer: those of a block's data
+-- the bytes of a work buffer: enough for a block's data in every format
 abbrev pub workLength : ℕ
-workLength = formatAt noArray .dataLength
+workLength = mostData
+
+-- ---- the scan of a stripe, which is lent the front of the work buffer: as many bytes as a block of the array has of data
+
+abbrev pub front : Array → List ℕ → List ℕ
+front a work = take (formatAt a .dataLength) work
+
+-- the work buffer, with these bytes at its front
+abbrev pub fronted : List ℕ → List ℕ → List ℕ
+fronted work bytes = sets work 0 bytes
+
+-- a start
+abbrev pub begunScan : Array → ℕ → List ℕ → Scan
+begunScan a stripe work = startState a stripe (length (front a work))
+
+abbrev pub begunWork : Array → ℕ → List ℕ → List ℕ
+begunWork a stripe work = fronted work (startWork a stripe (front a work))
+
+-- a piece of a member's block
+abbrev pub tookScan : Scan → ℕ → List ℕ → List ℕ → Scan
+tookScan scan member bytes work = pieceState scan member bytes (length (front (scan .array) work))
+
+abbrev pub tookWork : Scan → ℕ → List ℕ → List ℕ → List ℕ
+tookWork scan member bytes work = fronted work (pieceWork scan member bytes (front (scan .array) work))
+
+-- the finish, in numbers
+abbrev pub judgement : Scan → List ℕ → List ℕ
+judgement scan work = finishNumbers scan (front (scan .array) work)
 
 -- what a call leaves: how many bytes of the input it used, the state, the work buffer, and the line that it wrote, [] where it wrote none;
 -- of several calls, their lines joined
@@ -81,7 +110,7 @@ unfoldable pub headerWhole : ℕ → Report → List ℕ → Step
 headerWhole used r work =
     let a = arrayIn (headerCame r) in
     cond (eqb (headerRefusal (headerCame r)) 0)
-    (record { used = used; state = entering stripesStage (r .header) (startState a 0 (length work)) none; work = startWork a 0 work; line = firstLine a })
+    (record { used = used; state = entering stripesStage (r .header) (begunScan a 0 work) none; work = begunWork a 0 work; line = firstLine a })
     (record { used = used; state = ended r; work = work; line = refusedLine (headerRefusal (headerCame r)) })
 
 -- more of it came: it is whole, or lacks bytes still
@@ -119,7 +148,7 @@ stripeJudged used r work verdict =
     let line = stripeLine (r .scan .stripe) verdict in
     let tally = counted (tallyOf r) verdict in
     cond (ltb next (a .stripes))
-    (record { used = used; state = entering stripesStage (r .header) (startState a next (length work)) tally; work = startWork a next work; line = line })
+    (record { used = used; state = entering stripesStage (r .header) (begunScan a next work) tally; work = begunWork a next work; line = line })
     (record { used = used; state = entering behindStage (r .header) (r .scan) tally; work = work; line = line })
 
 -- the stripe is whole, with the scan's answer in numbers; where the scan refuses to judge, its refusal number, and the report is over
@@ -138,12 +167,12 @@ blockLacks r = formatAt (r .scan .array) .blockLength - r .have % formatAt (r .s
 -- bytes of that block
 unfoldable pub stripeTook : Report → List ℕ → List ℕ → Step
 stripeTook r bytes work =
-    let scan = pieceState (r .scan) (memberNow r) bytes (length work) in
-    let combined = pieceWork (r .scan) (memberNow r) bytes work in
+    let scan = tookScan (r .scan) (memberNow r) bytes work in
+    let combined = tookWork (r .scan) (memberNow r) bytes work in
     let held = holding r (r .header) (r .have + length bytes) scan in
     cond (ltb (r .have + length bytes) (stripeLength (r .scan .array)))
     (record { used = length bytes; state = held; work = combined; line = [] })
-    (stripeWhole (length bytes) held combined (finishNumbers scan combined))
+    (stripeWhole (length bytes) held combined (judgement scan combined))
 
 -- ---- feed: a step for each stage
 

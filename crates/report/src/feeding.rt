@@ -3,6 +3,7 @@ use crate::Fed;
 use crate::Report;
 use crate::ended;
 use crate::entering;
+use crate::lending::begin;
 use crate::stripe_took;
 use crate::stripes::block_lacks;
 use crate::stripes::stripe_fit;
@@ -64,8 +65,7 @@ fn header_whole(used: usize, report: Report, work: &mut [u8], out: &mut [u8]) ->
     }
     let array = lines::array_in(header);
     let written = lines::first_line(out, array);
-    let begun = scan::start(array, 0, work);
-    let scan = begun.state;
+    let scan = begin(array, 0, work);
     let state = entering(1, header, scan, 0, 0, 0, 0);
     Fed {
         state: state,

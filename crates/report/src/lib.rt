@@ -1,6 +1,7 @@
 // The report of an image that comes in pieces: what is held between the calls, and the steps within a stripe.
 mod feeding;
 mod fills;
+mod lending;
 mod stripes;
 
 pub use feeding::close;
@@ -8,6 +9,9 @@ pub use feeding::feed;
 pub use feeding::new;
 pub use fills::fill;
 use layout::Array;
+use lending::begin;
+use lending::judge;
+use lending::take_in;
 use lines::HEADER;
 use scan::Scan;
 use verdict::Scrubbed;
@@ -19,10 +23,9 @@ ghost use lib.ListN.{length};
 ghost use Rattle.verdict.specs.Verdicts.{verdictNumbers};
 ghost use Rattle.tag.specs.Blocks.{formatAt};
 ghost use Rattle.stripe.specs.Stripes.{stripeLength};
-ghost use Rattle.scan.specs.Scans.{finishNumbers};
 ghost use Rattle.lines.specs.Lines.{lineRoom};
 ghost use Rattle.report.specs.Reports.{counted};
-ghost use Rattle.report.specs.Feeding.{Does, holding, entering, ended, stripeFit, stripeJudged, stripeWhole, blockLacks, stripeTook};
+ghost use Rattle.report.specs.Feeding.{Does, judgement, holding, entering, ended, stripeFit, stripeJudged, stripeWhole, blockLacks, stripeTook};
 
 // Where a report stands between the calls, beside the work buffer.
 // stage: 0 in the header, 1 in the stripes, 2 behind the last stripe, 3 when the last line is written.
@@ -167,8 +170,7 @@ fn stripe_judged(
     let torn = counts.torn;
     let next = stripe + 1;
     if next < stripes {
-        let begun = scan::start(array, next, work);
-        let fresh = begun.state;
+        let fresh = begin(array, next, work);
         let state = entering(1, header, fresh, clean, bad, unchecked, torn);
         return Fed {
             state: state,
@@ -188,10 +190,10 @@ fn stripe_judged(
 fn stripe_whole(used: usize, report: Report, work: &mut [u8], out: &mut [u8]) -> Fed
     requires { ⌜ lineRoom ≤ length (now out) ⌝ }
     requires { ⌜ report .scan .stripe + (report .clean + report .bad + report .unchecked + report .torn) ≤ 4294967296 ⌝ }
-    ensures { λ r. ⌜ Does (stripeWhole used report (now (work .entry)) (finishNumbers (report .scan) (now (work .entry)))) r (now (work .exit)) (now (out .entry)) (now (out .exit)) ⌝ }
+    ensures { λ r. ⌜ Does (stripeWhole used report (now (work .entry)) (judgement (report .scan) (now (work .entry)))) r (now (work .exit)) (now (out .entry)) (now (out .exit)) ⌝ }
 {
     let scan = report.scan;
-    let answer = scan::finish(scan, work);
+    let answer = judge(scan, work);
     match answer {
         Scrubbed::Refused(number) => {
             let written = lines::refused_line(out, number);
@@ -234,8 +236,7 @@ fn stripe_took(report: Report, bytes: &[u8], work: &mut [u8], out: &mut [u8]) ->
     let have = report.have;
     let count = bytes.len();
     let member = whole_blocks(array, have);
-    let taken = scan::piece(scan, member, bytes, work);
-    let next = taken.state;
+    let next = take_in(scan, member, bytes, work);
     let now = have + count;
     let held = stripe_held(report, now, next);
     if now < stripe_length(array) {

@@ -48,14 +48,14 @@ standing first second third fourth =
       at = first ∷ second ∷ third ∷ fourth ∷ 0 ∷ 0 ∷ 0 ∷ 0 ∷ 0 ∷ 0 ∷ 0 ∷ 0 ∷ 0 ∷ 0 ∷ 0 ∷ 0 ∷ [];
       register = zeros;
       waiting = zeros;
-      tag = replicate 128 0;
+      tag = replicate 256 0;
     }
 
 -- ---- start
 
 -- a refused start gives zeros throughout and changes no byte: stripe 2 of two; a buffer of another length
 abbrev nothing : Scan
-nothing = record { array = arrayOf 0 0 0 0; stripe = 0; at = zeros; register = zeros; waiting = zeros; tag = replicate 128 0 }
+nothing = record { array = arrayOf 0 0 0 0; stripe = 0; at = zeros; register = zeros; waiting = zeros; tag = replicate 256 0 }
 
 pub refused-start : (startState three 2 512 ≡ nothing) × (startState three 1 2 ≡ nothing) × (startWork three 1 (8 ∷ 9 ∷ []) ≡ 8 ∷ 9 ∷ [])
 unfolding formatOf startState startWork startRefusal emptyScan stripeRefusal arrayRefusal
@@ -81,7 +81,7 @@ pairing position register byte =
       at = 3 ∷ position ∷ 0 ∷ 4 ∷ 0 ∷ 0 ∷ 0 ∷ 0 ∷ 0 ∷ 0 ∷ 0 ∷ 0 ∷ 0 ∷ 0 ∷ 0 ∷ 0 ∷ [];
       register = 5 ∷ register ∷ 6 ∷ 7 ∷ 0 ∷ 0 ∷ 0 ∷ 0 ∷ 0 ∷ 0 ∷ 0 ∷ 0 ∷ 0 ∷ 0 ∷ 0 ∷ 0 ∷ [];
       waiting = 8 ∷ byte ∷ 0 ∷ 9 ∷ 0 ∷ 0 ∷ 0 ∷ 0 ∷ 0 ∷ 0 ∷ 0 ∷ 0 ∷ 0 ∷ 0 ∷ 0 ∷ 0 ∷ [];
-      tag = replicate 128 0;
+      tag = replicate 256 0;
     }
 
 -- a byte waits after an odd number of bytes of data, and nowhere else; what stands past the members does not matter
@@ -89,6 +89,14 @@ pub fit-waiting : (fit (pairing 1 5 0x56) ≡ true) × (fit (pairing 511 5 1) �
     × (fit (pairing 0 5 1) ≡ false) × (fit (pairing 2 5 1) ≡ false) × (fit (pairing 513 5 1) ≡ false)
 unfolding formatOf fit stripeRefusal arrayRefusal mayWait
 fit-waiting = (refl, refl, refl, refl, refl, refl)
+
+-- a register has sixteen bits; what stands past the members does not matter
+abbrev kept : ℕ → ℕ → Scan
+kept last past = record { array = three; stripe = 1; at = replicate 16 0; register = 0 ∷ 1 ∷ last ∷ past ∷ replicate 12 0; waiting = replicate 16 0; tag = replicate 256 0 }
+
+pub fit-registers : (fit (kept 0xFFFF 0xFFFFFFFF) ≡ true) × (fit (kept 0x10000 0) ≡ false) × (fit (kept 0xFFFFFFFF 0) ≡ false)
+unfolding formatOf fit stripeRefusal arrayRefusal
+fit-registers = (refl, refl, refl)
 
 -- ---- piece: 4 goes before 5, 5 before 6 and 7, 6 before 7
 

@@ -4,13 +4,13 @@ use mathlib.Core.Path.{_≡_, refl, sym, ap, _∙_}
 use mathlib.Core.Bool.{Bool, true, false, not, cond, _&&_, _||_}
 use mathlib.Core.List.{List, [], _∷_, map}
 use mathlib.Core.Logic.{_≢_}
-use Prim.Native.Nat.{ℕ, zero, suc, _+_, _≤_, _<_, zero-le, suc-le-suc}
+use Prim.Native.Nat.{ℕ, zero, suc, _+_, _^_, _≤_, _<_, zero-le, suc-le-suc}
 use native.Mathlib.Nat.{le-of-suc-le-suc, not-suc-le-zero, zero-lt-suc}
 use native.Mathlib.Numerals.{add-one}
 use native.Mathlib.Decide.{ℕ-discrete, decLt}
 use native.Mathlib.Omega.{arith}
-use borrow.Author.Tests.{leb-true, le-leb, eqb-true, eq-eqb, ne-eqb}
-use lib.Dec.{leb, eqb}
+use borrow.Author.Tests.{leb-true, le-leb, ltb-true, lt-ltb, eqb-true, eq-eqb, ne-eqb}
+use lib.Dec.{leb, ltb, eqb}
 use lib.ListN.{length, getD, take, drop, replicate, length-take, drop-of-length-le, List·getD-eq-default}
 use lib.Seq.{drop-cons, getD-take}
 use Rattle.layout.specs.Answers.{refuse, after}
@@ -28,6 +28,7 @@ use Rattle.scan.specs.Scans.{
   emptyScan,
   startState,
   startWork,
+  valuesFit,
   waitingFit,
   fit,
   pieceRefusal,
@@ -58,6 +59,9 @@ module _ (f : ℕ → Bool) (l : List ℕ) (n i : ℕ) where
 both : (s t : Bool) → (s && t) ≡ true → (s ≡ true) × (t ≡ true)
 both true t e = (refl, e)
 both false t e = (e, (cc))
+
+three : (x y z : Bool) → (x && y && z) ≡ true → (x ≡ true) × (y ≡ true) × (z ≡ true)
+three x y z e = let h = both (x && y) z e in let k = both x y (h .0) in (k .0, k .1, h .1)
 
 -- a flag holds of all of them exactly if it holds at each place of the list below n
 pub all-first : (f : ℕ → Bool) (l : List ℕ) (n : ℕ) → all (map f (take n l)) ≡ true → (i : ℕ) → i < n → i < length l → f (getD l i 0) ≡ true
@@ -126,41 +130,46 @@ module _ (a : Array) (stripe : ℕ) (w : List ℕ) where
 
 -- ---- the members one by one
 
-module _ (F : Format) (n : ℕ) (at waiting : List ℕ) where
+module _ (F : Format) (n : ℕ) (at register waiting : List ℕ) where
+  abbrev narrow : ℕ → Bool
+  narrow m = ltb (getD register m 0) (256 ^ F .quarter)
+
   abbrev alone : ℕ → Bool
   alone m = eqb (getD waiting m 0) 0 || F .waits (getD at m 0)
 
   abbrev stands : ℕ → Bool
-  stands m = memberFit F (getD at m 0) (getD waiting m 0)
+  stands m = memberFit F (getD at m 0) (getD register m 0) (getD waiting m 0)
 
-  -- by their positions, and by what waits, together
-  pub members-by-two : n ≤ length at → membersFit F n at waiting ≡ (nonePast F n at && waitingFit F n at waiting)
-  members-by-two inside = alike (membersFit F n at waiting) (nonePast F n at && waitingFit F n at waiting) there back
+  -- by their positions, by their values and by what waits, together
+  pub members-by-parts : n ≤ length at → membersFit F n at register waiting ≡ (nonePast F n at && valuesFit F n register && waitingFit F n at waiting)
+  members-by-parts inside = alike (membersFit F n at register waiting) (nonePast F n at && valuesFit F n register && waitingFit F n at waiting) there back
     where
       alike : (x y : Bool) → (x ≡ true → y ≡ true) → (y ≡ true → x ≡ true) → x ≡ y
       alike true y f g = sym (f refl)
       alike false true f g = g refl
       alike false false f g = refl
 
-      joined : (x y : Bool) → x ≡ true → y ≡ true → (x && y) ≡ true
-      joined x y e f = rw (e, f)
+      joined : (x y z : Bool) → x ≡ true → y ≡ true → z ≡ true → (x && y && z) ≡ true
+      joined x y z e f g = rw (e, f, g)
 
-      there : membersFit F n at waiting ≡ true → (nonePast F n at && waitingFit F n at waiting) ≡ true
+      there : membersFit F n at register waiting ≡ true → (nonePast F n at && valuesFit F n register && waitingFit F n at waiting) ≡ true
       there e =
-          let each : (i : ℕ) → i < n → (leb (getD at i 0) (F .blockLength) ≡ true) × (alone i ≡ true) =
-          λ i h. both (leb (getD at i 0) (F .blockLength)) (alone i) (table-flag n stands e i h) in
-          joined (nonePast F n at) (waitingFit F n at waiting) (first-all (λ p. leb p (F .blockLength)) at n (λ i h k. each i h .0)) (flag-table n alone (λ i h. each i h .1))
+          let each : (i : ℕ) → i < n → (leb (getD at i 0) (F .blockLength) ≡ true) × (narrow i ≡ true) × (alone i ≡ true) =
+          λ i h. three (leb (getD at i 0) (F .blockLength)) (narrow i) (alone i) (table-flag n stands e i h) in
+          joined (nonePast F n at) (valuesFit F n register) (waitingFit F n at waiting) (first-all (λ p. leb p (F .blockLength)) at n (λ i h k. each i h .0))
+          (flag-table n narrow (λ i h. each i h .1)) (flag-table n alone (λ i h. each i h .2))
 
-      back : (nonePast F n at && waitingFit F n at waiting) ≡ true → membersFit F n at waiting ≡ true
+      back : (nonePast F n at && valuesFit F n register && waitingFit F n at waiting) ≡ true → membersFit F n at register waiting ≡ true
       back e =
-          let h = both (nonePast F n at) (waitingFit F n at waiting) e in
+          let h = three (nonePast F n at) (valuesFit F n register) (waitingFit F n at waiting) e in
           flag-table n stands
-          (λ i k. joined (leb (getD at i 0) (F .blockLength)) (alone i) (all-first (λ p. leb p (F .blockLength)) at n (h .0) i k (omega arith)) (table-flag n alone (h .1) i k))
+          (λ i k. joined (leb (getD at i 0) (F .blockLength)) (narrow i) (alone i) (all-first (λ p. leb p (F .blockLength)) at n (h .0) i k (omega arith)) (table-flag n narrow (h .1) i k) (table-flag n alone (h .2) i k))
 
-  -- at once, where none of all sixteen is too far and none waits
-  members-at-once : ((i : ℕ) → i < n → getD at i 0 ≤ F .blockLength) → ((i : ℕ) → i < n → getD waiting i 0 ≡ 0) → membersFit F n at waiting ≡ true
-  members-at-once near none =
-      flag-table n stands (λ i h. rw (le-leb (getD at i 0) (F .blockLength) (near i h), none i h))
+  -- at once, where none of all sixteen is too far, none too great and none waits
+  members-at-once : ((i : ℕ) → i < n → getD at i 0 ≤ F .blockLength) → ((i : ℕ) → i < n → getD register i 0 < 256 ^ F .quarter) → ((i : ℕ) → i < n → getD waiting i 0 ≡ 0)
+      → membersFit F n at register waiting ≡ true
+  members-at-once near small none =
+      flag-table n stands (λ i h. rw (le-leb (getD at i 0) (F .blockLength) (near i h), lt-ltb (getD register i 0) (256 ^ F .quarter) (small i h), none i h))
 
 -- ---- a fit state
 
@@ -169,25 +178,28 @@ module _ (s : Scan) where
   unfolding fit
   numbers-unfit h = rw (ne-eqb (stripeRefusal (s .array) (s .stripe)) 0 h)
 
-  numbers-two : stripeRefusal (s .array) (s .stripe) ≡ 0
-      → fit s ≡ (nonePast (formatAt (s .array)) (s .array .members) (s .at) && waitingFit (formatAt (s .array)) (s .array .members) (s .at) (s .waiting))
+  numbers-parts : stripeRefusal (s .array) (s .stripe) ≡ 0
+      → fit s
+      ≡ (nonePast (formatAt (s .array)) (s .array .members) (s .at) && valuesFit (formatAt (s .array)) (s .array .members) (s .register)
+      && waitingFit (formatAt (s .array)) (s .array .members) (s .at) (s .waiting))
   unfolding fit
-  numbers-two e = rw e
+  numbers-parts e = rw e
 
   pub numbers-fit : stripeRefusal (s .array) (s .stripe) ≡ 0 → s .array .members ≤ length (s .at)
-      → membersFit (formatAt (s .array)) (s .array .members) (s .at) (s .waiting) ≡ fit s
-  numbers-fit e inside = members-by-two (formatAt (s .array)) (s .array .members) (s .at) (s .waiting) inside ∙ sym (numbers-two e)
+      → membersFit (formatAt (s .array)) (s .array .members) (s .at) (s .register) (s .waiting) ≡ fit s
+  numbers-fit e inside = members-by-parts (formatAt (s .array)) (s .array .members) (s .at) (s .register) (s .waiting) inside ∙ sym (numbers-parts e)
 
-  -- told at once, where of all sixteen none is too far and none waits
-  pub fit-told : ((i : ℕ) → i < 16 → getD (s .at) i 0 ≤ formatAt (s .array) .blockLength) → ((i : ℕ) → i < 16 → getD (s .waiting) i 0 ≡ 0) → length (s .at) ≡ 16
+  -- told at once, where of all sixteen none is too far, none too great and none waits
+  pub fit-told : ((i : ℕ) → i < 16 → getD (s .at) i 0 ≤ formatAt (s .array) .blockLength) → ((i : ℕ) → i < 16 → getD (s .register) i 0 < 256 ^ formatAt (s .array) .quarter)
+      → ((i : ℕ) → i < 16 → getD (s .waiting) i 0 ≡ 0) → length (s .at) ≡ 16
       → eqb (stripeRefusal (s .array) (s .stripe)) 0 ≡ fit s
-  fit-told near none long = go (ℕ-discrete (stripeRefusal (s .array) (s .stripe)) 0)
+  fit-told near small none long = go (ℕ-discrete (stripeRefusal (s .array) (s .stripe)) 0)
     where
       go : Dec (stripeRefusal (s .array) (s .stripe) ≡ 0) → eqb (stripeRefusal (s .array) (s .stripe)) 0 ≡ fit s
       go (yes e) =
           let few = stripe-sound (s .array) (s .stripe) e .array .many in
           eq-eqb (stripeRefusal (s .array) (s .stripe)) 0 e
-          ∙ sym (members-at-once (formatAt (s .array)) (s .array .members) (s .at) (s .waiting) (λ i h. near i (omega arith)) (λ i h. none i (omega arith)))
+          ∙ sym (members-at-once (formatAt (s .array)) (s .array .members) (s .at) (s .register) (s .waiting) (λ i h. near i (omega arith)) (λ i h. small i (omega arith)) (λ i h. none i (omega arith)))
           ∙ numbers-fit e (omega arith)
       go (no h) = ne-eqb (stripeRefusal (s .array) (s .stripe)) 0 h ∙ sym (numbers-unfit h)
 
@@ -196,20 +208,18 @@ module _ (s : Scan) where
   fit-state e =
       let F = formatAt (s .array) in
       let n = s .array .members in
-      let h = three (eqb (stripeRefusal (s .array) (s .stripe)) 0) (nonePast F n (s .at)) (waitingFit F n (s .at) (s .waiting)) e in
+      let sure = eqb (stripeRefusal (s .array) (s .stripe)) 0 in
+      let g = both (sure && nonePast F n (s .at) && valuesFit F n (s .register)) (waitingFit F n (s .at) (s .waiting)) e in
+      let h = three sure (nonePast F n (s .at)) (valuesFit F n (s .register)) (g .0) in
       let sound = eqb-true (stripeRefusal (s .array) (s .stripe)) 0 (h .0) in
       record {
         numbers = sound;
         few = stripe-sound (s .array) (s .stripe) sound .array .many;
         near = λ i k. near i k (decLt i (length (s .at))) (h .1);
-        alone = λ i k w. alone i w (table-flag n (λ m. eqb (getD (s .waiting) m 0) 0 || F .waits (getD (s .at) m 0)) (h .2) i k);
+        narrow = λ i k. ltb-true (getD (s .register) i 0) (256 ^ F .quarter) (table-flag n (λ m. ltb (getD (s .register) m 0) (256 ^ F .quarter)) (h .2) i k);
+        alone = λ i k w. alone i w (table-flag n (λ m. eqb (getD (s .waiting) m 0) 0 || F .waits (getD (s .at) m 0)) (g .1) i k);
       }
     where
-      three : (x y z : Bool) → (x && y && z) ≡ true → (x ≡ true) × (y ≡ true) × (z ≡ true)
-      three true true z e = (refl, refl, e)
-      three true false z e = (refl, e, (cc))
-      three false y z e = (e, (cc), (cc))
-
       near : (i : ℕ) → i < s .array .members → Dec (i < length (s .at)) → nonePast (formatAt (s .array)) (s .array .members) (s .at) ≡ true → getD (s .at) i 0 ≤ (formatAt (s .array) .blockLength)
       near i k (yes l) e = leb-true (getD (s .at) i 0) (formatAt (s .array) .blockLength) (all-first (λ p. leb p (formatAt (s .array) .blockLength)) (s .at) (s .array .members) e i k l)
       near i k (no l) e = rw (List·getD-eq-default (s .at) 0 {n = i} (omega arith)) zero-le

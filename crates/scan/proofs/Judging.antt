@@ -12,10 +12,10 @@ use Rattle.format.specs.Formats.{Format, mostTags}
 use Rattle.layout.specs.Answers.{answer}
 use Rattle.layout.specs.Places.{ownerRefusal}
 use Rattle.format.proofs.Sizes.{times-next}
-use Rattle.layout.proofs.Ranges.{place-sound}
 use Rattle.layout.specs.declared.Array.{Array}
-use Rattle.tag.specs.Tags.{found, tagWithin, guardDue, dueAt, expected, standing}
-use Rattle.tag.proofs.Within.{tag-inside}
+use Rattle.tag.specs.Numbers.{numberOf}
+use Rattle.tag.specs.Tags.{found, guardDue, dueAt, expected, standing}
+use Rattle.tag.proofs.Within.{found-by-calls}
 use Rattle.scan.proofs.Joins.{getD-map-in}
 use Rattle.tag.specs.declared.Fields.{Fields}
 use Rattle.tag.proofs.Owed.{due-somewhere}
@@ -32,16 +32,17 @@ use Rattle.scan.specs.Scans.{heldSummary, registerAt, registersOf, finis
 use Rattle.scan.specs.Steps.{heldStanding, standingsHeld, heldGuards}
 use Rattle.scan.proofs.Refusals.{refused-verdict}
 
--- the tag of a member among those held
-held-tag : (F : Format) (m : ℕ) (tags : List ℕ) → m < 16 → length tags ≡ mostTags → tagWithin F tags (F .tagLength * m) ≡ span (F .tagLength * m) (F .tagLength) tags
-unfolding span
-held-tag F m tags few long = tag-inside F tags (F .tagLength * m) (omega (arith, long, times-next (F .tagLength) m 16 few, F .tag-quarters, F .quarter-most))
+-- the fields of a member's tag among those held, as the code reads them
+module _ (F : Format) (m at quarter : ℕ) (tags : List ℕ) (few : m < 16) (long : length tags ≡ mostTags) (here : at ≡ F .tagLength * m) (q : quarter ≡ F .quarter) where
+  pub held-room : (at + 4 * quarter ≤ length tags) × (quarter ≤ 4)
+  held-room = (omega (arith, long, here, q, times-next (F .tagLength) m 16 few, F .tag-quarters, F .quarter-most), omega (arith, q, F .quarter-most))
 
--- the guard in it
-pub guard-by-steps : (F : Format) (m at : ℕ) (tags : List ℕ) (f : Fields) → m < 16 → length tags ≡ mostTags → at ≡ F .tagLength * m → f ≡ found F (tagWithin F tags at)
-    → f .guard ≡ found F (span (F .tagLength * m) (F .tagLength) tags) .guard
-guard-by-steps F m at tags f few long here r =
-    ap (λ (x : Fields). x .guard) (r ∙ ap (found F) (ap (tagWithin F tags) here ∙ held-tag F m tags few long))
+  pub fields-held : (f : Fields) → f .guard ≡ numberOf (take quarter (drop at tags)) → f .application ≡ numberOf (take quarter (drop (at + quarter) tags))
+      → f .reference ≡ numberOf (take (2 * quarter) (drop (at + 2 * quarter) tags)) → f ≡ found F (span (F .tagLength * m) (F .tagLength) tags)
+  unfolding span
+  fields-held f eg ea er =
+      found-by-calls F tags at quarter q (f .guard) (f .application) (f .reference) eg ea er
+      ∙ ap (λ (k : ℕ). found F (take (F .tagLength) (drop k tags))) here
 
 -- the guards in the tags of the members, combined one after another
 module _ (F : Format) (n : ℕ) (tags : List ℕ) (guards : ℕ) where
@@ -60,18 +61,13 @@ module _ (F : Format) (n : ℕ) (tags : List ℕ) (guards : ℕ) where
       guards-end guards (table n guardAt) m (rw length-table h)
 
 -- one member, by the steps of its check
-pub held-by-steps : (a : Array) (stripe m at g register : ℕ) (tags : List ℕ) → ownerRefusal a stripe m ≡ 0 → length tags ≡ mostTags
-    → (f e : Fields) (how : ℕ) → at ≡ formatAt a .tagLength * m → g ≡ formatAt a .guardOf register
-    → f ≡ found (formatAt a) (tagWithin (formatAt a) tags at) → e ≡ dueAt a stripe m (guardDue a stripe m (f .guard) g)
+pub held-by-steps : (a : Array) (stripe m g register : ℕ) (tags : List ℕ) → ownerRefusal a stripe m ≡ 0 → (f e : Fields) (how : ℕ) → g ≡ formatAt a .guardOf register
+    → f ≡ found (formatAt a) (span (formatAt a .tagLength * m) (formatAt a .tagLength) tags) → e ≡ dueAt a stripe m (guardDue a stripe m (f .guard) g)
     → how ≡ standing (formatAt a) f e → how ≡ heldStanding a stripe m register tags
 unfolding heldStanding
-held-by-steps a stripe m at g register tags place long f e how here eg r due-there q =
-    let F = formatAt a in
-    let p = place-sound a stripe m place in
-    let few : m < 16 = omega (arith, p .here, p .stripe .array .many) in
-    let is : f ≡ found F (span (F .tagLength * m) (F .tagLength) tags) = r ∙ ap (found F) (ap (tagWithin F tags) here ∙ held-tag F m tags few long) in
+held-by-steps a stripe m g register tags place f e how eg is due-there q =
     q
-    ∙ ap₂ (standing F) is
+    ∙ ap₂ (standing (formatAt a)) is
     (due-there ∙ due-somewhere a stripe m (guardDue a stripe m (f .guard) g) place ∙ ap₂ (λ (x : Fields) (y : ℕ). expected a stripe m x y) is eg)
 
 -- which places are torn by what is held

@@ -4,12 +4,13 @@ use mathlib.Core.Bool.{false}
 use mathlib.Core.List.{List, [], _∷_, _++_}
 use mathlib.Core.Logic.{_≢_}
 use Prim.Native.Nat.{ℕ, zero, suc, _+_, _*_, _^_, _≤_, _<_}
-use native.Mathlib.Nat.{mul-zero, add-zero}
+use native.Mathlib.Nat.{mul-zero, add-zero, mod-lt}
+use native.Mathlib.Decide.{ℕ-discrete}
 use native.Mathlib.Omega.{arith}
 use lib.ListN.{length, getD, set, replicate, length-set, getD-replicate}
 use lib.Seq.{getD-set-same, getD-set-other}
 use Rattle.format.specs.Formats.{Format, valueIn, waitingIn, registerFrom}
-use Rattle.format.proofs.Sizes.{register-kept}
+use Rattle.format.proofs.Sizes.{register-kept, power-some}
 use Rattle.layout.specs.declared.Array.{Array}
 use Rattle.tag.specs.Blocks.{formatAt, dataOf}
 use Rattle.stripe.specs.Formats.{registerOf}
@@ -67,6 +68,22 @@ module _ (s : Scan) (m : ℕ) (bytes : List ℕ) where
   pub advanced-values : length (advanced s m bytes .register) ≡ length (s .register)
   unfolding advanced
   advanced-values = simp length-set
+
+  pub advanced-narrow : length (s .register) ≡ 16 → ((k : ℕ) → k < 16 → getD (s .register) k 0 < 256 ^ formatAt (s .array) .quarter)
+      → (k : ℕ) → k < 16 → getD (advanced s m bytes .register) k 0 < 256 ^ formatAt (s .array) .quarter
+  unfolding advanced
+  advanced-narrow long small k h = go (ℕ-discrete k m)
+    where
+      F : Format
+      F = formatAt (s .array)
+
+      after : ℕ
+      after = F .advance (getD (s .at) m 0) (registerAt F s m) (dataOfPiece F (getD (s .at) m 0) bytes)
+
+      go : Dec (k ≡ m) → getD (set (s .register) m (valueIn F after)) k 0 < 256 ^ F .quarter
+      go (yes e) =
+          rw (ap (λ (j : ℕ). getD (set (s .register) j (valueIn F after)) k 0) (sym e) ∙ getD-set-same (s .register) k (valueIn F after) 0 (omega arith)) (mod-lt after (power-some F))
+      go (no e) = rw (getD-set-other (s .register) m k (valueIn F after) 0 e) (small k h)
 
   pub advanced-waiters : length (advanced s m bytes .waiting) ≡ length (s .waiting)
   unfolding advanced

@@ -3,7 +3,7 @@
 use mathlib.Core.Path.{_≡_, refl, sym, ap, _∙_}
 use mathlib.Core.Bool.{Bool, true, false, not, _||_, true≢false}
 use mathlib.Core.Logic.{_≢_, _↔_}
-use Prim.Native.Nat.{ℕ, zero, suc, _-_, _≤_}
+use Prim.Native.Nat.{ℕ, zero, suc, _-_, _^_, _≤_}
 use native.Mathlib.Omega.{arith}
 use borrow.Author.Tests.{le-leb, ltb-true, ltb-false, lt-ltb, le-ltb, eqb-true, eqb-false, eq-eqb, ne-eqb}
 use lib.Dec.{leb, ltb, eqb}
@@ -41,6 +41,7 @@ module _ (s : Scan) where
       rw (
         h .numbers,
         first-all (λ p. leb p (F .blockLength)) (s .at) (s .array .members) (λ i k l. le-leb (getD (s .at) i 0) (F .blockLength) (h .near i k)),
+        flag-table (s .array .members) (λ m. ltb (getD (s .register) m 0) (256 ^ F .quarter)) (λ i k. lt-ltb (getD (s .register) i 0) (256 ^ F .quarter) (h .narrow i k)),
         flag-table (s .array .members) (λ m. eqb (getD (s .waiting) m 0) 0 || F .waits (getD (s .at) m 0))
             (λ i k. may-wait (getD (s .waiting) i 0) (F .waits (getD (s .at) i 0)) refl (h .alone i k)),
       )

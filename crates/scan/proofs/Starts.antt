@@ -4,7 +4,8 @@ use mathlib.Core.Path.{_≡_, refl, sym, subst}
 use mathlib.Core.List.{List}
 use Prim.Native.Nat.{ℕ, zero, suc}
 use native.Mathlib.Omega.{arith}
-use lib.ListN.{length, replicate, length-replicate}
+use lib.ListN.{length, replicate, length-replicate, getD-replicate}
+use Rattle.format.proofs.Laws.{start-narrow}
 use Rattle.format.specs.Formats.{mostTags}
 use Rattle.layout.specs.Answers.{after}
 use Rattle.layout.specs.Arrays.{stripeRefusal}
@@ -35,6 +36,7 @@ module _ (a : Array) (stripe : ℕ) (old : List ℕ) (accepted : startRefusal a 
         array = refl;
         place = refl;
         values = length-replicate {A = ℕ} 16 (formatAt a .start);
+        narrow = λ m h. rw (getD-replicate 16 m (formatAt a .start) 0 h) (start-narrow (a .method));
         waiters = refl;
         follows =
             subst (λ (registers : List ℕ). Follows (formatAt a) (a .members) (record { at = replicate 16 0; register = registers; tag = replicate mostTags 0; work = replicate (formatAt a .dataLength) 0 }) (begun (a .members)))

@@ -7,7 +7,7 @@ use mathlib.Core.List.{List, [], map}
 use Prim.Native.Nat.{ℕ, _-_, _^_, _≤_, _<_}
 use native.Mathlib.Omega.{arith}
 use lib.Dec.{eqb, ltb}
-use borrow.Author.Tests.{eq-eqb, eqb-true, ltb-true}
+use borrow.Author.Tests.{eq-eqb, eqb-true, ltb-true, lt-ltb}
 use lib.ListN.{length, getD}
 use Rattle.xor.proofs.Combination.{length-combination}
 use Rattle.layout.specs.Answers.{refuse}
@@ -22,12 +22,12 @@ use Rattle.stripe.specs.Formats.{registerOf}
 use Rattle.stripe.specs.Verdicts.{verdict, scrubBlocks}
 use Rattle.scan.specs.declared.Scan.{Scan}
 use Rattle.scan.specs.History.{piece, finish, kept}
-use Rattle.scan.specs.Scans.{waitingFit, fit, pieceRefusal, advanced, pieceState, pieceWork, finishRefusal, finishNumbers, buffer}
+use Rattle.scan.specs.Scans.{valuesFit, waitingFit, fit, pieceRefusal, advanced, pieceState, pieceWork, finishRefusal, finishNumbers, buffer}
 use Rattle.scan.specs.Holding.{Held, Follows, held, Holds}
 use Rattle.scan.specs.Machines.{taken, heldPieceNumber, heldAnswer, heldAfter}
 use Rattle.scan.proofs.Pieces.{position-is}
 use Rattle.scan.proofs.Fitness.{flag-table}
-use Rattle.scan.proofs.Registers.{register-alone, register-held, held-advanced, advanced-array, advanced-stripe, advanced-values, advanced-waiters}
+use Rattle.scan.proofs.Registers.{register-alone, register-held, held-advanced, advanced-array, advanced-stripe, advanced-values, advanced-narrow, advanced-waiters}
 use Rattle.scan.proofs.Finishes.{positions-fit}
 use Rattle.scan.proofs.Machine.{call-follows}
 
@@ -58,11 +58,14 @@ module _ (a : Array) (stripe : ℕ) (sound : stripeRefusal a stripe ≡ 0) (s : 
   waiting-all : waitingFit (formatAt a) (a .members) (s .at) (s .waiting) ≡ true
   waiting-all = flag-table (a .members) (λ m. eqb (getD (s .waiting) m 0) 0 || formatAt a .waits (getD (s .at) m 0)) waiting-right
 
+  values-all : valuesFit (formatAt a) (a .members) (s .register) ≡ true
+  values-all = flag-table (a .members) (λ m. ltb (getD (s .register) m 0) (256 ^ formatAt a .quarter)) (λ m h. lt-ltb (getD (s .register) m 0) (256 ^ formatAt a .quarter) (t .narrow m (omega (arith, few))))
+
   pub is-fit : fit s ≡ true
   unfolding fit
   is-fit =
       let F = formatAt a in
-      rw (t .array, t .place, sound, positions-fit F (a .members) (held F s w) history (t .follows), waiting-all)
+      rw (t .array, t .place, sound, positions-fit F (a .members) (held F s w) history (t .follows), values-all, waiting-all)
 
   pub work-long : length w ≡ formatAt a .dataLength
   work-long = ap length (t .follows .work-is) ∙ length-combination (formatAt a .dataLength) (map (dataOf (formatAt a)) history)
@@ -88,6 +91,7 @@ module _ (a : Array) (stripe : ℕ) (sound : stripeRefusal a stripe ≡ 0) (s : 
         array = same-array flag;
         place = same-place flag;
         values = same-values flag;
+        narrow = same-narrow flag;
         waiters = same-waiters flag;
         follows = go flag refl (call-follows (formatAt a) (a .members) (verdict a stripe) (held (formatAt a) s w) history (t .follows) (piece m bytes));
       })
@@ -106,6 +110,12 @@ module _ (a : Array) (stripe : ℕ) (sound : stripeRefusal a stripe ≡ 0) (s : 
       same-values : (f : Bool) → length ((cond f (advanced s m bytes) s) .register) ≡ 16
       same-values true = advanced-values s m bytes ∙ t .values
       same-values false = t .values
+
+      same-narrow : (f : Bool) → (k : ℕ) → k < 16 → getD ((cond f (advanced s m bytes) s) .register) k 0 < 256 ^ formatAt a .quarter
+      same-narrow true =
+          subst (λ (G : Format). (k : ℕ) → k < 16 → getD (advanced s m bytes .register) k 0 < 256 ^ G .quarter) (ap formatAt (t .array))
+          (advanced-narrow s m bytes (t .values) (subst (λ (G : Format). (k : ℕ) → k < 16 → getD (s .register) k 0 < 256 ^ G .quarter) (sym (ap formatAt (t .array))) (t .narrow)))
+      same-narrow false = t .narrow
 
       same-waiters : (f : Bool) → length ((cond f (advanced s m bytes) s) .waiting) ≡ 16
       same-waiters true = advanced-waiters s m bytes ∙ t .waiters

@@ -2,7 +2,7 @@
 -- what its bytes so far make them, and the work buffer is the combination of all data so far. Assumes nothing.
 use mathlib.Core.Path.{_≡_}
 use mathlib.Core.List.{List, [], map}
-use Prim.Native.Nat.{ℕ, _+_, _*_, _≤_, _<_}
+use Prim.Native.Nat.{ℕ, _+_, _*_, _^_, _≤_, _<_}
 use lib.ListN.{length, getD, take}
 use Rattle.xor.specs.Xors.{combination}
 use Rattle.layout.specs.declared.Array.{Array}
@@ -35,10 +35,11 @@ pub record Follows (F : Format) (n : ℕ) (h : Held F) (history : List (List ℕ
 abbrev pub held : (F : Format) → Scan → List ℕ → Held F
 held F s w = record { at = s .at; register = registersOf F s; tag = s .tag; work = w }
 
--- of an array and a stripe: the state's numbers are theirs, and it has sixteen values and bytes that wait
+-- of an array and a stripe: the state's numbers are theirs, and it has sixteen values, of no more bits than a guard has, and bytes that wait
 pub record Holds (a : Array) (stripe : ℕ) (s : Scan) (w : List ℕ) (history : List (List ℕ)) : Type 0 where
   pub array : s .array ≡ a
   pub place : s .stripe ≡ stripe
   pub values : length (s .register) ≡ 16
+  pub narrow : (m : ℕ) → m < 16 → getD (s .register) m 0 < 256 ^ formatAt a .quarter
   pub waiters : length (s .waiting) ≡ 16
   pub follows : Follows (formatAt a) (a .members) (held (formatAt a) s w) history

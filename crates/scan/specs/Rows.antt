@@ -3,7 +3,7 @@
 use mathlib.Core.Path.{_≡_}
 use mathlib.Core.Bool.{false}
 use mathlib.Core.Logic.{_≢_}
-use Prim.Native.Nat.{ℕ, _+_, _≤_, _<_}
+use Prim.Native.Nat.{ℕ, _+_, _^_, _≤_, _<_}
 use lib.ListN.{getD}
 use Rattle.layout.specs.Arrays.{stripeRefusal}
 use Rattle.layout.specs.declared.Array.{Array}
@@ -11,11 +11,12 @@ use Rattle.tag.specs.Blocks.{formatAt}
 use Rattle.scan.specs.declared.Scan.{Scan}
 
 -- a fit state: its numbers break none of rows 1 to 3 and 12, so that its members are sixteen at most; none of their positions is past the end of a
--- block; and no byte waits where none can
+-- block; no value has more bits than a guard; and no byte waits where none can
 pub record FitState (s : Scan) : Type 0 where
   pub numbers : stripeRefusal (s .array) (s .stripe) ≡ 0
   pub few : s .array .members ≤ 16
   pub near : (i : ℕ) → i < s .array .members → getD (s .at) i 0 ≤ formatAt (s .array) .blockLength
+  pub narrow : (i : ℕ) → i < s .array .members → getD (s .register) i 0 < 256 ^ formatAt (s .array) .quarter
   pub alone : (i : ℕ) → i < s .array .members → formatAt (s .array) .waits (getD (s .at) i 0) ≡ false → getD (s .waiting) i 0 ≡ 0
 
 -- what a piece that is taken may count on

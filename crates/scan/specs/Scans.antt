@@ -1,6 +1,6 @@
 -- The calls of a scan: for each its refusal number, its answer, and the state and work buffer that it leaves, on any state and any
 -- buffer, not only those that a start leads to. Assumes nothing.
-use Prim.Native.Nat.{ℕ, _+_, _-_, _*_}
+use Prim.Native.Nat.{ℕ, _+_, _-_, _*_, _^_}
 use mathlib.Core.Bool.{Bool, not, cond, _&&_, _||_}
 use mathlib.Core.List.{List, _++_, map}
 use lib.Dec.{leb, ltb, eqb}
@@ -79,16 +79,25 @@ startState a stripe workBytes = cond (eqb (startRefusal a stripe workBytes) 0) (
 unfoldable pub startWork : Array → ℕ → List ℕ → List ℕ
 startWork a stripe work = cond (eqb (startRefusal a stripe (length work)) 0) (replicate (formatAt a .dataLength) 0) work
 
--- ---- a state is fit: numbers in range, and of the first n members no position past the end of a block, and no byte waiting where none can
+-- ---- a state is fit: numbers in range, and of the first n members no position past the end of a block, no value with more bits than a guard has, and
+-- no byte waiting where none can
+
+abbrev pub valuesFit : Format → ℕ → List ℕ → Bool
+valuesFit F n register = all (table n (λ m. ltb (getD register m 0) (256 ^ F .quarter)))
 
 abbrev pub waitingFit : Format → ℕ → List ℕ → List ℕ → Bool
 waitingFit F n at waiting = all (table n (λ m. eqb (getD waiting m 0) 0 || F .waits (getD at m 0)))
 
+-- by the parts of a state that are looked at: all but the tag bytes
+abbrev pub fitBy : Array → ℕ → List ℕ → List ℕ → List ℕ → Bool
+fitBy a stripe at register waiting =
+    eqb (stripeRefusal a stripe) 0
+    && all (map (λ p. leb p (formatAt a .blockLength)) (take (a .members) at))
+    && valuesFit (formatAt a) (a .members) register
+    && waitingFit (formatAt a) (a .members) at waiting
+
 unfoldable pub fit : Scan → Bool
-fit s =
-    eqb (stripeRefusal (s .array) (s .stripe)) 0
-    && all (map (λ p. leb p (formatAt (s .array) .blockLength)) (take (s .array .members) (s .at)))
-    && waitingFit (formatAt (s .array)) (s .array .members) (s .at) (s .waiting)
+fit s = fitBy (s .array) (s .stripe) (s .at) (s .register) (s .waiting)
 
 -- ---- piece
 

@@ -1,9 +1,9 @@
 -- Steps of the code, cited by promises of its private functions: no theorem's statement rests on these. Tests of the first positions,
 -- a piece at its position, and how the members stand by what a state holds. Assumes nothing.
-use Prim.Native.Nat.{ℕ, _+_, _-_, _*_}
+use Prim.Native.Nat.{ℕ, _+_, _-_, _*_, _^_}
 use mathlib.Core.Bool.{Bool, _&&_, _||_}
 use mathlib.Core.List.{List, _++_, map}
-use lib.Dec.{leb, eqb}
+use lib.Dec.{leb, ltb, eqb}
 use lib.ListN.{getD, take, drop}
 use lib.Seq.{sets}
 use Rattle.xor.specs.Xors.{xors}
@@ -15,12 +15,13 @@ use Rattle.tag.specs.Blocks.{formatAt}
 use Rattle.scan.specs.declared.Scan.{Scan}
 use Rattle.scan.specs.Scans.{dataOfPiece, tagOfPiece, registerAt}
 
--- a member may stand at a position with a byte waiting: not past the end of a block, and nothing waits but where a byte can; the first n members do
-abbrev pub memberFit : Format → ℕ → ℕ → Bool
-memberFit F position waiting = leb position (F .blockLength) && (eqb waiting 0 || F .waits position)
+-- a member may stand at a position with this value and a byte waiting: not past the end of a block, with no more bits than a guard has, and nothing
+-- waits but where a byte can; the first n members do
+abbrev pub memberFit : Format → ℕ → ℕ → ℕ → Bool
+memberFit F position value waiting = leb position (F .blockLength) && ltb value (256 ^ F .quarter) && (eqb waiting 0 || F .waits position)
 
-abbrev pub membersFit : Format → ℕ → List ℕ → List ℕ → Bool
-membersFit F n at waiting = all (table n (λ m. memberFit F (getD at m 0) (getD waiting m 0)))
+abbrev pub membersFit : Format → ℕ → List ℕ → List ℕ → List ℕ → Bool
+membersFit F n at register waiting = all (table n (λ m. memberFit F (getD at m 0) (getD register m 0) (getD waiting m 0)))
 
 -- of the first n positions none is past the end of a block; all stand there
 abbrev pub nonePast : Format → ℕ → List ℕ → Bool

@@ -4,13 +4,13 @@ ghost use Prim.Native.Nat.{_*_, _≤_, _<_};
 ghost use lib.ListN.{length, take};
 ghost use Rattle.format.specs.Formats.{mostTags};
 ghost use Rattle.format.specs.Methods.{formatOf};
-ghost use Rattle.layout.specs.Arrays.{stripeRefusal};
 ghost use Rattle.layout.specs.Places.{parityMember, ownerRefusal};
 ghost use Rattle.tag.specs.Tags.{found};
 ghost use Rattle.verdict.specs.Verdicts.{scrubbedNumbers, combinedGuards};
 ghost use Rattle.stripe.specs.Tables.{span};
 ghost use Rattle.stripe.specs.Stripes.{leftOf};
 ghost use Rattle.scan.specs.Scans.{finishRefusal, finishNumbers};
+ghost use Rattle.scan.specs.Rows.{FitState};
 ghost use Rattle.scan.specs.Steps.{allWhole, heldStanding, standingsHeld, heldGuards};
 use crate::Scan;
 use crate::fit;
@@ -42,8 +42,10 @@ fn finish_refusal(state: Scan, length: usize) -> u8
     let array = state.array;
     let members = array.members;
     let at = state.at;
+    let register = state.register;
+    let waiting = state.waiting;
     let method = array.method;
-    if !fit(state) {
+    if !fit(array, state.stripe, &at, &register, &waiting) {
         return 4;
     }
     if length != format::data_length(method) {
@@ -72,21 +74,22 @@ fn standing(
     let method = array.method;
     let at = tag_at(method, member);
     let guard = format::guard_of(method, register);
-    let found = tag::found(method, tags, at);
+    let found = tag::fields_at(tags, at, format::quarter(method));
     let owned = layout::owner_beside(array, stripe, parity, member);
     tag::standing(method, found, tag::expected_to(array, owned, found, guard))
 }
 
 // How the members stand, in member order from the front.
-fn standings(state: Scan) -> [u8; 16]
-    requires { ⌜ stripeRefusal (state .array) (state .stripe) ≡ 0 ⌝ }
+fn standings(state: Scan, tags: &[u8]) -> [u8; 16]
+    requires { ⌜ now tags ≡ state .tag ⌝ }
+    requires { ⌜ length (now tags) ≡ mostTags ⌝ }
+    requires { ⌜ FitState state ⌝ }
     ensures { λ r. ⌜ take (state .array .members) r ≡ standingsHeld state ⌝ }
 {
     let array = state.array;
     let stripe = state.stripe;
     let values = state.register;
     let waiting = state.waiting;
-    let tags = state.tag;
     let members = array.members;
     let method = array.method;
     let parity = layout::parity_member(array, stripe);
@@ -98,8 +101,8 @@ fn standings(state: Scan) -> [u8; 16]
             stripe,
             parity,
             member,
-            register_of(method, values[member], waiting[member]),
-            &tags,
+            register_of(method, values[member], waiting[member]) as u32,
+            tags,
         );
         member += 1;
     }
@@ -112,7 +115,7 @@ fn held_guard(method: u8, tags: &[u8], member: usize) -> u64
     requires { ⌜ length (now tags) ≡ mostTags ⌝ }
     ensures { λ r. ⌜ r ≡ found (formatOf method) (span (formatOf method .tagLength * member) (formatOf method .tagLength) (now (tags .entry))) .guard ⌝ }
 {
-    let found = tag::found(method, tags, tag_at(method, member));
+    let found = tag::fields_at(tags, tag_at(method, member), format::quarter(method));
     found.guard
 }
 
@@ -153,7 +156,7 @@ pub fn finish(state: Scan, work: &[u8]) -> Scrubbed
     }
     let members = state.array.members;
     let tags = state.tag;
-    let standing = standings(state);
+    let standing = standings(state, &tags);
     let left = guards_left(state.array.method, &tags, members);
     Scrubbed::Found(verdict::judge(&standing[0..members], work, left))
 }

@@ -9,8 +9,9 @@ pub use starting::start;
 pub use taking::piece;
 ghost use mathlib.Core.Path.{_≡_};
 ghost use Prim.Native.Nat.{_*_, _≤_};
+ghost use lib.ListN.{length};
 ghost use Rattle.format.specs.Methods.{formatOf};
-ghost use Rattle.scan.specs.Scans.{fit};
+ghost use Rattle.scan.specs.Scans.{fitBy};
 ghost use Rattle.scan.specs.Steps.{memberFit, membersFit};
 use format::MOST_TAGS;
 use layout::Array;
@@ -21,7 +22,7 @@ pub struct Scan {
     pub array: Array,
     pub stripe: u64,
     pub at: [u16; 16],
-    pub register: [u16; 16],
+    pub register: [u32; 16],
     pub waiting: [u8; 16],
     pub tag: [u8; MOST_TAGS],
 }
@@ -32,11 +33,15 @@ pub struct Taken {
     pub state: Scan,
 }
 
-// Whether a member may stand at a position with this byte waiting: none past the end of a block, and nothing waits but where a byte can.
-fn member_fits(method: u8, position: u16, waiting: u8) -> bool
-    ensures { λ r. ⌜ r ≡ memberFit (formatOf method) position waiting ⌝ }
+// Whether a member may stand at a position with this value and this byte waiting: not past the end of a block, no more bits than a guard has, and
+// nothing waits but where a byte can.
+fn member_fits(method: u8, position: u16, value: u32, waiting: u8) -> bool
+    ensures { λ r. ⌜ r ≡ memberFit (formatOf method) position value waiting ⌝ }
 {
     if position as usize > format::block_length(method) {
+        return false;
+    }
+    if value > format::most_value(method) {
         return false;
     }
     if waiting == 0 {
@@ -46,13 +51,16 @@ fn member_fits(method: u8, position: u16, waiting: u8) -> bool
 }
 
 // Whether the first members all may stand as they do.
-fn members_fit(method: u8, at: [u16; 16], waiting: [u8; 16], members: usize) -> bool
+fn members_fit(method: u8, at: &[u16], register: &[u32], waiting: &[u8], members: usize) -> bool
     requires { ⌜ members ≤ 16 ⌝ }
-    ensures { λ r. ⌜ r ≡ membersFit (formatOf method) members at waiting ⌝ }
+    requires { ⌜ length (now at) ≡ 16 ⌝ }
+    requires { ⌜ length (now register) ≡ 16 ⌝ }
+    requires { ⌜ length (now waiting) ≡ 16 ⌝ }
+    ensures { λ r. ⌜ r ≡ membersFit (formatOf method) members (now (at .entry)) (now (register .entry)) (now (waiting .entry)) ⌝ }
 {
     let mut member: usize = 0;
     while member < members {
-        if !member_fits(method, at[member], waiting[member]) {
+        if !member_fits(method, at[member], register[member], waiting[member]) {
             return false;
         }
         member += 1;
@@ -68,15 +76,16 @@ fn tag_at(method: u8, member: usize) -> usize
     format::tag_length(method) * member
 }
 
-// Whether a state is fit: its numbers are in range, its members' positions too, and bytes wait only where they can.
-fn fit(state: Scan) -> bool
-    ensures { λ r. ⌜ r ≡ fit state ⌝ }
+// Whether a state is fit, by these parts of it: its numbers are in range, its members' positions and values too, and bytes wait only where they
+// can. Lent and not handed over: else the compiler takes the arrays apart and puts them together again.
+fn fit(array: Array, stripe: u64, at: &[u16], register: &[u32], waiting: &[u8]) -> bool
+    requires { ⌜ length (now at) ≡ 16 ⌝ }
+    requires { ⌜ length (now register) ≡ 16 ⌝ }
+    requires { ⌜ length (now waiting) ≡ 16 ⌝ }
+    ensures { λ r. ⌜ r ≡ fitBy array stripe (now (at .entry)) (now (register .entry)) (now (waiting .entry)) ⌝ }
 {
-    let array = state.array;
-    let at = state.at;
-    let waiting = state.waiting;
-    if layout::stripe_refusal(array, state.stripe) != 0 {
+    if layout::stripe_refusal(array, stripe) != 0 {
         return false;
     }
-    members_fit(array.method, at, waiting, array.members)
+    members_fit(array.method, at, register, waiting, array.members)
 }

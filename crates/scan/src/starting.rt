@@ -36,7 +36,7 @@ fn clear(work: &mut [u8])
 fn empty(array: Array, stripe: u64) -> Scan
     ensures { λ r. ⌜ r ≡ emptyScan array stripe ⌝ }
 {
-    let first = format::start(array.method) as u16;
+    let first = format::start(array.method);
     Scan {
         array: array,
         stripe: stripe,

@@ -1,24 +1,26 @@
 // A piece of a member's block is taken in.
 ghost use mathlib.Core.Path.{_≡_};
-ghost use Prim.Native.Nat.{ℕ, _+_, _-_, _*_, _≤_, _<_};
-ghost use mathlib.Core.Bool.{true, cond, _&&_};
+ghost use Prim.Native.Nat.{ℕ, _+_, _-_, _*_, _^_, _≤_, _<_};
+ghost use mathlib.Core.Bool.{true, false, cond, _&&_};
 ghost use lib.Dec.{eqb};
 ghost use lib.ListN.{length, getD, set};
 ghost use lib.Seq.{sets};
 ghost use Rattle.format.specs.Methods.{formatOf};
 ghost use Rattle.tag.specs.Blocks.{formatAt};
 ghost use Rattle.scan.specs.Steps.{combinedFrom, tagsFrom};
-ghost use Rattle.scan.specs.Scans.{fit, dataOfPiece, buffer, advanced, pieceRefusal, pieceState, pieceWork};
+ghost use Rattle.scan.specs.Scans.{fitBy, dataOfPiece, buffer, advanced, pieceRefusal, pieceState, pieceWork};
 use crate::Scan;
 use crate::Taken;
 use crate::fit;
 use crate::tag_at;
 use copy::put;
+use format::USUAL_TAG;
 use format::data_room;
 use format::register_of;
 use format::tag_place;
 use format::value_in;
 use format::waiting_in;
+use layout::Array;
 use xor::least;
 
 // A flag that stays as long as something holds.
@@ -29,8 +31,9 @@ fn still(flag: bool, holds: bool) -> bool
 }
 
 // Whether of all sixteen positions none is past an end.
-fn none_past(at: [u16; 16], end: u16) -> bool
-    ensures { λ r. ⌜ (r ≡ true → (i : ℕ) → i < 16 → getD at i 0 ≤ end) ⌝ }
+fn none_past(at: &[u16], end: u16) -> bool
+    requires { ⌜ length (now at) ≡ 16 ⌝ }
+    ensures { λ r. ⌜ (r ≡ true → (i : ℕ) → i < 16 → getD (now (at .entry)) i 0 ≤ end) ⌝ }
 {
     let mut none = true;
     let mut i: usize = 0;
@@ -41,9 +44,24 @@ fn none_past(at: [u16; 16], end: u16) -> bool
     none
 }
 
+// Whether of all sixteen values none is above the most that there may be.
+fn none_above(register: &[u32], most: u32) -> bool
+    requires { ⌜ length (now register) ≡ 16 ⌝ }
+    ensures { λ r. ⌜ (r ≡ true → (i : ℕ) → i < 16 → getD (now (register .entry)) i 0 ≤ most) ⌝ }
+{
+    let mut none = true;
+    let mut i: usize = 0;
+    while i < 16 {
+        none = still(none, register[i] <= most);
+        i += 1;
+    }
+    none
+}
+
 // Whether for none of all sixteen a byte waits.
-fn none_waits(waiting: [u8; 16]) -> bool
-    ensures { λ r. ⌜ (r ≡ true → (i : ℕ) → i < 16 → getD waiting i 0 ≡ 0) ⌝ }
+fn none_waits(waiting: &[u8]) -> bool
+    requires { ⌜ length (now waiting) ≡ 16 ⌝ }
+    ensures { λ r. ⌜ (r ≡ true → (i : ℕ) → i < 16 → getD (now (waiting .entry)) i 0 ≡ 0) ⌝ }
 {
     let mut none = true;
     let mut i: usize = 0;
@@ -55,19 +73,22 @@ fn none_waits(waiting: [u8; 16]) -> bool
 }
 
 // Whether a state is fit: at once where it can be told of all sixteen together, else by its members one by one.
-fn fit_at_once(state: Scan) -> bool
-    ensures { λ r. ⌜ r ≡ fit state ⌝ }
+fn fit_at_once(array: Array, stripe: u64, at: &[u16], register: &[u32], waiting: &[u8]) -> bool
+    requires { ⌜ length (now at) ≡ 16 ⌝ }
+    requires { ⌜ length (now register) ≡ 16 ⌝ }
+    requires { ⌜ length (now waiting) ≡ 16 ⌝ }
+    ensures { λ r. ⌜ r ≡ fitBy array stripe (now (at .entry)) (now (register .entry)) (now (waiting .entry)) ⌝ }
 {
-    let array = state.array;
-    let at = state.at;
-    let waiting = state.waiting;
     let end = format::block_length(array.method) as u16;
+    let most = format::most_value(array.method);
     if none_past(at, end) {
-        if none_waits(waiting) {
-            return layout::stripe_refusal(array, state.stripe) == 0;
+        if none_above(register, most) {
+            if none_waits(waiting) {
+                return layout::stripe_refusal(array, stripe) == 0;
+            }
         }
     }
-    fit(state)
+    fit(array, stripe, at, register, waiting)
 }
 
 // The refusal number of a piece: an unfit state, no such member, a work buffer of another length, more than the member lacks.
@@ -77,8 +98,10 @@ fn piece_refusal(state: Scan, member: usize, count: usize, length: usize) -> u8
     let array = state.array;
     let members = array.members;
     let at = state.at;
+    let register = state.register;
+    let waiting = state.waiting;
     let method = array.method;
-    if !fit_at_once(state) {
+    if !fit_at_once(array, state.stripe, &at, &register, &waiting) {
         return 4;
     }
     if member >= members {
@@ -94,8 +117,18 @@ fn piece_refusal(state: Scan, member: usize, count: usize, length: usize) -> u8
     0
 }
 
-// Stores tag bytes of a member, the first of which stands at `position` of its block, each at its place of the member's tag. A whole tag has a
-// length that the compiler knows, and is stored at once.
+// Puts tag bytes among the tags from a place on. Most whole tags have a length that the compiler knows, and are stored at once.
+fn put_tag(tag: &mut [u8], from: usize, bytes: &[u8])
+    ensures { λ _. ⌜ now (tag .exit) ≡ sets (now (tag .entry)) from (now (bytes .entry)) ⌝ }
+{
+    if bytes.len() == USUAL_TAG {
+        put(tag, from, &bytes[0..USUAL_TAG]);
+        return;
+    }
+    put(tag, from, bytes);
+}
+
+// Stores tag bytes of a member, the first of which stands at `position` of its block, each at its place of the member's tag.
 fn store(method: u8, tag: &mut [u8], member: usize, position: usize, bytes: &[u8])
     requires { ⌜ member < 16 ⌝ }
     requires { ⌜ formatOf method .dataLength ≤ position ⌝ }
@@ -103,12 +136,7 @@ fn store(method: u8, tag: &mut [u8], member: usize, position: usize, bytes: &[u8
     ensures { λ _. ⌜ now (tag .exit) ≡ sets (now (tag .entry)) (formatOf method .tagLength * member + (position - formatOf method .dataLength)) (now (bytes .entry)) ⌝ }
 {
     let from = tag_at(method, member) + tag_place(method, position);
-    let whole = format::tag_length(method);
-    if bytes.len() == whole {
-        put(tag, from, &bytes[0..whole]);
-        return;
-    }
-    put(tag, from, bytes);
+    put_tag(tag, from, bytes);
 }
 
 // A number, or another where two places are the same.
@@ -119,7 +147,7 @@ fn chosen(held: u16, here: u16, place: u16, value: u16) -> u16
 }
 
 // Sixteen numbers with another at one place. Each is chosen anew: one stored alone among the others would have to be waited for when they are read
-// together.
+// together. The places are compared as numbers of the same width, by a remainder where they are made so: else the compiler compares them wider.
 fn replaced(held: [u16; 16], place: u16, value: u16) -> [u16; 16]
     ensures { λ r. ⌜ r ≡ set held place value ⌝ }
 {
@@ -127,6 +155,26 @@ fn replaced(held: [u16; 16], place: u16, value: u16) -> [u16; 16]
     let mut i: usize = 0;
     while i < 16 {
         next[i] = chosen(held[i], i as u16, place, value);
+        i += 1;
+    }
+    next
+}
+
+// The same of values: one, or another where two places are the same.
+fn chosen_value(held: u32, here: u32, place: u32, value: u32) -> u32
+    ensures { λ r. ⌜ r ≡ cond (eqb here place) value held ⌝ }
+{
+    if here == place { value } else { held }
+}
+
+// And sixteen of them.
+fn replaced_value(held: [u32; 16], place: u32, value: u32) -> [u32; 16]
+    ensures { λ r. ⌜ r ≡ set held place value ⌝ }
+{
+    let mut next = [0u32; 16];
+    let mut i: usize = 0;
+    while i < 16 {
+        next[i] = chosen_value(held[i], i as u32, place, value);
         i += 1;
     }
     next
@@ -187,7 +235,7 @@ fn pass_whole(method: u8, member: usize, bytes: &[u8], work: &mut [u8], tag: &mu
     let data = format::data_length(method);
     let block = format::block_length(method);
     let head = &bytes[0..data];
-    put(tag, tag_at(method, member), &bytes[data..block]);
+    put_tag(tag, tag_at(method, member), &bytes[data..block]);
     let after = format::advance(method, 0, format::start(method), head);
     xor::xor_into(work, head);
     after
@@ -223,6 +271,8 @@ fn take_in(state: Scan, member: usize, bytes: &[u8], work: &mut [u8]) -> Scan
     requires { ⌜ member < 16 ⌝ }
     requires { ⌜ getD (state .at) member 0 + length (now bytes) ≤ formatAt (state .array) .blockLength ⌝ }
     requires { ⌜ length (now work) ≡ formatAt (state .array) .dataLength ⌝ }
+    requires { ⌜ getD (state .register) member 0 < 256 ^ formatAt (state .array) .quarter ⌝ }
+    requires { ⌜ (formatAt (state .array) .waits (getD (state .at) member 0) ≡ false → getD (state .waiting) member 0 ≡ 0) ⌝ }
     ensures { λ r. ⌜ r ≡ advanced state member (now (bytes .entry)) ⌝ }
     ensures { λ _. ⌜ now (work .exit) ≡ buffer (formatAt (state .array)) (state .at) (now (work .entry)) member (now (bytes .entry)) ⌝ }
 {
@@ -234,10 +284,18 @@ fn take_in(state: Scan, member: usize, bytes: &[u8], work: &mut [u8]) -> Scan
     let mut tag = state.tag;
     let position = positions[member] as usize;
     let count = bytes.len();
-    let register = register_of(method, values[member], bytes_waiting[member]);
+    let register = register_of(method, values[member], bytes_waiting[member]) as u32;
     let after = pass(method, member, position, register, bytes, work, &mut tag);
-    let at = replaced(positions, member as u16, (position + count) as u16);
-    let value = replaced(values, member as u16, value_in(method, after));
+    let at = replaced(
+        positions,
+        (member % 65536) as u16,
+        (position + count) as u16,
+    );
+    let value = replaced_value(
+        values,
+        (member % 4294967296) as u32,
+        value_in(method, after),
+    );
     let waiting = replaced_byte(bytes_waiting, member, waiting_in(method, after));
     Scan {
         array,

@@ -15,8 +15,7 @@ use Rattle.layout.specs.declared.Array.{Array}
 use Rattle.format.specs.Formats.{Format}
 use Rattle.format.proofs.Sizes.{times-next}
 use Rattle.tag.specs.Blocks.{formatAt}
-use Rattle.tag.specs.Tags.{due, dueAt, tagBytes, tagWritten, taggedBy}
-use Rattle.tag.proofs.Within.{written-inside}
+use Rattle.tag.specs.Tags.{due, dueAt, bytesBy, tagBytes, taggedBy}
 use Rattle.tag.specs.declared.Fields.{Fields}
 use Rattle.tag.proofs.Owed.{due-somewhere}
 use Rattle.stripe.specs.Tables.{table, joined, span}
@@ -97,11 +96,12 @@ blocks-swap F bytes m k x y lx ly ne = by-order (decLt m k)
 -- written as the code writes it: the tag due there in its place
 pub tag-in-place : (a : Array) (stripe m g to : ℕ) (f : Fields) (bytes last : List ℕ) → ownerRefusal a stripe m ≡ 0
     → formatAt a .blockLength * m + formatAt a .blockLength ≤ length bytes → f ≡ dueAt a stripe m g
-    → to ≡ formatAt a .blockLength * m + formatAt a .dataLength → last ≡ tagWritten (formatAt a) f bytes to
+    → to ≡ formatAt a .blockLength * m + formatAt a .dataLength → (quarter : ℕ) → quarter ≡ formatAt a .quarter → last ≡ sets bytes to (bytesBy quarter f)
     → last ≡ sets bytes (formatAt a .blockLength * m + formatAt a .dataLength) (tagBytes (formatAt a) (due a stripe m g))
-tag-in-place a stripe m g to f bytes last place room ef there e =
+unfolding tagBytes
+tag-in-place a stripe m g to f bytes last place room ef there quarter q e =
     let F = formatAt a in
-    e ∙ written-inside F bytes to f (omega (arith, F .block-parts)) ∙ ap₂ (λ (k : ℕ) (x : Fields). sets bytes k (tagBytes F x)) there (ef ∙ due-somewhere a stripe m g place)
+    e ∙ ap (λ (n : ℕ). sets bytes to (bytesBy n f)) q ∙ ap₂ (λ (k : ℕ) (x : Fields). sets bytes k (tagBytes F x)) there (ef ∙ due-somewhere a stripe m g place)
 
 -- the data, then the tag
 pub data-then-tag : (a : Array) (stripe m g : ℕ) (bytes once twice content : List ℕ) → length content ≡ formatAt a .dataLength

@@ -13,7 +13,7 @@ use Rattle.layout.specs.declared.Array.{Array}
 use Rattle.layout.proofs.Ranges.{stripe-sound}
 use Rattle.format.specs.Formats.{guard, blank, spare, settled}
 use Rattle.format.proofs.Combined.{spare-suc, settled-carried, settled-plain, guard-combination}
-use Rattle.format.proofs.Laws.{combines, settled-none}
+use Rattle.format.proofs.Laws.{combines}
 use Rattle.tag.specs.Blocks.{formatAt, dataOf}
 use Rattle.tag.specs.Tags.{good}
 use Rattle.tag.proofs.Guards.{own-plain}
@@ -76,9 +76,9 @@ module _ (a : Array) (stripe : ℕ) (bytes : List ℕ) (is-clean : scrubNumbers 
           sym (xor-twice all (spare F (suc n))) ∙ ap₂ bitXor right (sym (spare-suc F n)) ∙ ap (bitXor (blank F)) (xor-comm (spare F n) (blank F)) ∙ xor-undo (blank F) (spare F n)
           ∙ sym (settled-plain F n e)
 
-  -- which is nothing, in both methods
-  pub guards-zero : combinedGuards (stored a bytes) ≡ 0
-  guards-zero = guards-settled ∙ settled-none (a .method) (a .members)
+  -- which is nothing, where the parity carries them
+  guards-zero : formatAt a .carries ≡ true → combinedGuards (stored a bytes) ≡ 0
+  guards-zero carrying = guards-settled ∙ settled-carried (formatAt a) (a .members) carrying
 
   -- so the quick scrub of them fits
   pub clean-fits : quickOf a (stored a bytes) ≡ 1 ∷ 0 ∷ 0 ∷ 0 ∷ []
@@ -86,16 +86,16 @@ module _ (a : Array) (stripe : ℕ) (bytes : List ℕ) (is-clean : scrubNumbers 
       let sound = stripe-sound a stripe (scrub-sound a stripe (length bytes) taken .0) .array in
       compared-fits (settled (formatAt a) (a .members)) (stored a bytes) (rw length-table (sound-quick (a .members) (sound .few) (sound .many))) guards-settled
 
-  -- one member's block replaced, by anything: its guard before and its guard now are what is left
-  pub guards-but-one : (member : ℕ) (later : List ℕ) → member < a .members
+  -- there, one member's block replaced, by anything: its guard before and its guard now are what is left
+  pub guards-but-one : formatAt a .carries ≡ true → (member : ℕ) (later : List ℕ) → member < a .members
       → ((m : ℕ) → m < a .members → m ≢ member → blockOf (formatAt a) later m ≡ blockOf (formatAt a) bytes m)
       → combinedGuards (stored a later) ≡ bitXor (storedGuard (formatAt a) (blockOf (formatAt a) bytes member)) (storedGuard (formatAt a) (blockOf (formatAt a) later member))
-  guards-but-one member later here kept =
+  guards-but-one carrying member later here kept =
       let F = formatAt a in
       let n = a .members in
       let before : ℕ → ℕ = λ m. storedGuard F (blockOf F bytes m) in
       let now : ℕ → ℕ = λ m. storedGuard F (blockOf F later m) in
       ap combinedGuards (one-entry-set n member now before here (λ m h ne. ap (storedGuard F) (kept m h ne)))
       ∙ guards-set (table n before) member (now member) (rw length-table here)
-      ∙ ap₂ (λ (x y : ℕ). bitXor (bitXor x y) (now member)) guards-zero (getD-table n before 0 member here)
+      ∙ ap₂ (λ (x y : ℕ). bitXor (bitXor x y) (now member)) (guards-zero carrying) (getD-table n before 0 member here)
       ∙ ap (λ (x : ℕ). bitXor x (now member)) (xor-zero-l (before member))

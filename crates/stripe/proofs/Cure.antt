@@ -96,9 +96,9 @@ module _ (a : Array) (stripe own lost : ℕ) (right cut damaged : List ℕ) (is-
       ∙ ap (λ (d : List ℕ). xors d l) (ap (xors left) (sym lost-same) ∙ sym (all-data F n lost cut lost-here) ∙ all-data F n own cut own-here ∙ ap (λ (d : List ℕ). xors d y) by-own)
       ∙ xors-swap x y l ∙ ap (λ (d : List ℕ). xors d y) (xors-comm x l (long own own-here ∙ sym (long lost lost-here)))
 
-  guards-left : othersGuards (formatAt a) (a .members) lost damaged
+  guards-left : formatAt a .carries ≡ true → othersGuards (formatAt a) (a .members) lost damaged
       ≡ bitXor (bitXor (storedGuard (formatAt a) (blockOf (formatAt a) right lost)) (storedGuard (formatAt a) (blockOf (formatAt a) right own))) (storedGuard (formatAt a) (blockOf (formatAt a) cut own))
-  guards-left =
+  guards-left carrying =
       let F = formatAt a in
       let n = a .members in
       let x = storedGuard F (blockOf F right own) in
@@ -108,7 +108,7 @@ module _ (a : Array) (stripe own lost : ℕ) (right cut damaged : List ℕ) (is-
       let lost-same : storedGuard F (blockOf F cut lost) ≡ l = ap (storedGuard F) (same lost lost-here apart) in
       others-guards-ext F n lost damaged cut kept
       ∙ sym (xor-twice left l)
-      ∙ ap (λ (g : ℕ). bitXor g l) (ap (bitXor left) (sym lost-same) ∙ sym (all-guards F n lost cut lost-here) ∙ guards-but-one a stripe right is-clean own cut own-here same)
+      ∙ ap (λ (g : ℕ). bitXor g l) (ap (bitXor left) (sym lost-same) ∙ sym (all-guards F n lost cut lost-here) ∙ guards-but-one a stripe right is-clean carrying own cut own-here same)
       ∙ xor-swap x y l ∙ ap (λ (g : ℕ). bitXor g y) (xor-comm x l)
 
 -- of two answers one is given where P holds, the other where it does not
@@ -244,15 +244,15 @@ module _ (a : Array) (block other written : ℕ) (new before damaged : List ℕ)
       (λ right is-clean same. data-left a stripe own lost right cut damaged is-clean own-here lost-here lost-apart same (loss .kept))
       ∙ ap (xors (xors lostData oldData)) new-data
 
-  pub cut-guards : leftGuard ≡ bitXor (bitXor (guard (formatAt a) lostData) (guard (formatAt a) oldData)) (guard (formatAt a) new)
-  cut-guards =
+  pub cut-guards : formatAt a .carries ≡ true → leftGuard ≡ bitXor (bitXor (guard (formatAt a) lostData) (guard (formatAt a) oldData)) (guard (formatAt a) new)
+  cut-guards carrying =
       let F = formatAt a in
       let good-before = scrub-clean a stripe before taken-before .0 (cut-short .was-clean) .0 in
       let lost-own = stored-own a stripe lost before (own-data a stripe lost lost-no-parity) (good-before lost lost-here) in
       let own-own = stored-own a stripe own before (own-data a stripe own (parity-no-block a block)) (good-before own own-here) in
       let new-own = stored-own a stripe own after (own-data a stripe own (parity-no-block a block)) (scrub-clean a stripe after taken-after .0 after-clean .0 own own-here) in
       either-way (storedGuard F) bitXor leftGuard xor-swap
-      (λ right is-clean same. guards-left a stripe own lost right cut damaged is-clean own-here lost-here lost-apart same (loss .kept))
+      (λ right is-clean same. guards-left a stripe own lost right cut damaged is-clean own-here lost-here lost-apart same (loss .kept) carrying)
       ∙ ap₂ bitXor (ap₂ bitXor lost-own own-own) (new-own ∙ ap (guard F) new-data)
 
   -- ---- the cure
@@ -262,10 +262,10 @@ module _ (a : Array) (block other written : ℕ) (new before damaged : List ℕ)
   Fits = leftGuard ≡ guard (formatAt a) madeData
 
   -- in data alone: the guards of the lost, the old and the new data combine to that of these data combined
-  pub fits-exactly : Fits ↔ (bitXor (bitXor (guard (formatAt a) lostData) (guard (formatAt a) oldData)) (guard (formatAt a) new) ≡ guard (formatAt a) (xors (xors lostData oldData) new))
-  fits-exactly = (
-    λ e. sym cut-guards ∙ e ∙ ap (guard (formatAt a)) cut-data,
-    λ e. cut-guards ∙ e ∙ ap (guard (formatAt a)) (sym cut-data),
+  pub fits-exactly : formatAt a .carries ≡ true → Fits ↔ (bitXor (bitXor (guard (formatAt a) lostData) (guard (formatAt a) oldData)) (guard (formatAt a) new) ≡ guard (formatAt a) (xors (xors lostData oldData) new))
+  fits-exactly carrying = (
+    λ e. sym (cut-guards carrying) ∙ e ∙ ap (guard (formatAt a)) cut-data,
+    λ e. cut-guards carrying ∙ e ∙ ap (guard (formatAt a)) (sym cut-data),
   )
 
   others-good : (k : ℕ) → k < a .members → k ≢ lost → good a stripe k (blockOf (formatAt a) cut k) ≡ true
@@ -308,8 +308,8 @@ module _ (a : Array) (block other written : ℕ) (new before damaged : List ℕ)
         (λ both. let z : _≡_ {A = ℕ} 1 0 = ap (λ (l : List ℕ). getD l 0 0) (both .0 .0 ∙ sym (both .1 .0)) in omega arith)
 
   -- they always fit where the lost data were the same as the old or as the new ones: the others then make the other of the two
-  pub alike-fits : (lostData ≡ oldData) ⊎ (lostData ≡ new) → Fits
-  alike-fits alike = fits-exactly .1 (by-case alike)
+  pub alike-fits : formatAt a .carries ≡ true → (lostData ≡ oldData) ⊎ (lostData ≡ new) → Fits
+  alike-fits carrying alike = fits-exactly carrying .1 (by-case alike)
     where
       g : List ℕ → ℕ
       g = guard (formatAt a)

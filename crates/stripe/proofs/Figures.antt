@@ -34,28 +34,30 @@ read-names = (refl, refl, refl)
 abbrev array : ℕ → ℕ → ℕ → Array
 array members stripes method = arrayOf members stripes 7 method
 
-pub seal-in-order : (sealRefusal (array 2 0 3) 1 0 0 ≡ 1) × (sealRefusal (array 3 0 3) 1 0 0 ≡ 2) × (sealRefusal (array 3 1 3) 1 0 0 ≡ 12)
+pub seal-in-order : (sealRefusal (array 2 0 4) 1 0 0 ≡ 1) × (sealRefusal (array 3 0 4) 1 0 0 ≡ 2) × (sealRefusal (array 3 1 4) 1 0 0 ≡ 12)
     × (sealRefusal (array 3 1 1) 1 0 0 ≡ 3) × (sealRefusal (array 3 1 1) 0 0 0 ≡ 6) × (sealRefusal (array 3 1 1) 0 1024 0 ≡ 6)
     × (sealRefusal (array 3 1 1) 0 1024 1560 ≡ 0) × (sealRefusal (array 3 1 2) 0 1024 1560 ≡ 0)
+    × (sealRefusal (array 3 1 3) 0 1024 1560 ≡ 6) × (sealRefusal (array 3 1 3) 0 8192 12336 ≡ 0)
 unfolding formatOf sealRefusal stripeRefusal arrayRefusal
-seal-in-order = (refl, refl, refl, refl, refl, refl, refl, refl)
+seal-in-order = (refl, refl, refl, refl, refl, refl, refl, refl, refl, refl)
 
-pub read-in-order : (readRefusal (array 2 0 3) 2 [] 0 ≡ 1) × (readRefusal (array 3 0 3) 2 [] 0 ≡ 2) × (readRefusal (array 3 1 3) 2 [] 0 ≡ 12)
+pub read-in-order : (readRefusal (array 2 0 4) 2 [] 0 ≡ 1) × (readRefusal (array 3 0 4) 2 [] 0 ≡ 2) × (readRefusal (array 3 1 4) 2 [] 0 ≡ 12)
     × (readRefusal (array 3 1 1) 2 [] 0 ≡ 3) × (readRefusal (array 3 1 1) 0 [] 0 ≡ 6) × (readRefusal (array 3 1 1) 0 [] 512 ≡ 6)
 unfolding formatOf readRefusal serveRefusal blockRefusal arrayRefusal
 read-in-order = (refl, refl, refl, refl, refl, refl)
 
-pub rebuild-in-order : (rebuildRefusal (array 2 0 3) 1 3 [] ≡ 1) × (rebuildRefusal (array 3 0 3) 1 3 [] ≡ 2) × (rebuildRefusal (array 3 1 3) 1 3 [] ≡ 12)
+pub rebuild-in-order : (rebuildRefusal (array 2 0 4) 1 3 [] ≡ 1) × (rebuildRefusal (array 3 0 4) 1 3 [] ≡ 2) × (rebuildRefusal (array 3 1 4) 1 3 [] ≡ 12)
     × (rebuildRefusal (array 3 1 1) 1 3 [] ≡ 3) × (rebuildRefusal (array 3 1 1) 0 3 [] ≡ 5) × (rebuildRefusal (array 3 1 1) 0 0 [] ≡ 6)
 unfolding formatOf rebuildRefusal ownerRefusal stripeRefusal arrayRefusal
 rebuild-in-order = (refl, refl, refl, refl, refl, refl)
 
-pub update-in-order : (updateRefusal (array 2 0 3) 2 0 [] ≡ 1) × (updateRefusal (array 3 0 3) 2 0 [] ≡ 2) × (updateRefusal (array 3 1 3) 2 0 [] ≡ 12)
+pub update-in-order : (updateRefusal (array 2 0 4) 2 0 [] ≡ 1) × (updateRefusal (array 3 0 4) 2 0 [] ≡ 2) × (updateRefusal (array 3 1 4) 2 0 [] ≡ 12)
     × (updateRefusal (array 3 1 1) 2 0 [] ≡ 3) × (updateRefusal (array 3 1 1) 0 0 [] ≡ 6) × (updateRefusal (array 3 1 1) 0 512 [] ≡ 6)
 unfolding formatOf updateRefusal replaceRefusal blockRefusal arrayRefusal
 update-in-order = (refl, refl, refl, refl, refl, refl)
 
-pub scrub-in-order : (scrubRefusal (array 2 0 3) 1 0 ≡ 1) × (scrubRefusal (array 3 0 3) 1 0 ≡ 2) × (scrubRefusal (array 3 1 3) 1 0 ≡ 12)
+pub scrub-in-order : (scrubRefusal (array 2 0 4) 1 0 ≡ 1) × (scrubRefusal (array 3 0 4) 1 0 ≡ 2) × (scrubRefusal (array 3 1 4) 1 0 ≡ 12)
     × (scrubRefusal (array 3 1 1) 1 0 ≡ 3) × (scrubRefusal (array 3 1 1) 0 0 ≡ 6) × (scrubRefusal (array 3 1 1) 0 1560 ≡ 0) × (scrubRefusal (array 3 1 2) 0 1560 ≡ 0)
+    × (scrubRefusal (array 3 1 3) 0 1560 ≡ 6) × (scrubRefusal (array 3 1 3) 0 12336 ≡ 0)
 unfolding formatOf scrubRefusal stripeRefusal arrayRefusal
-scrub-in-order = (refl, refl, refl, refl, refl, refl, refl)
+scrub-in-order = (refl, refl, refl, refl, refl, refl, refl, refl, refl)

@@ -9,7 +9,7 @@ use lib.ListN.{length, take, drop, drop-of-length-le, take-append-drop}
 use lib.Seq.{sets, sets-eq, take-add, take-all, drop-drop}
 use Rattle.copy.proofs.Puts.{sets-append}
 use Rattle.xor.specs.Xors.{xors}
-use Rattle.format.specs.Formats.{Format}
+use Rattle.format.specs.Formats.{Format, pieceLength}
 use Rattle.format.proofs.Sizes.{times-next}
 use Rattle.tag.specs.Blocks.{dataOf}
 use Rattle.verdict.specs.Verdicts.{lowest, nonzero}
@@ -60,28 +60,28 @@ sets-whole l vs h =
     ∙ ap (λ (x : List ℕ). vs ++ x) (drop-of-length-le l {i = 0 + length vs} (omega arith)) ∙ append-nil vs
 
 -- with a piece of a run, or with a run of one piece
-pub piece-whole : (whole piece : List ℕ) (from : ℕ) → length piece ≡ 512 → from + 512 ≤ length whole → sets piece 0 (span from 512 whole) ≡ span from 512 whole
-piece-whole whole piece from long room = sets-whole piece (span from 512 whole) (long ∙ sym (length-span from 512 whole room))
+pub piece-whole : (whole piece : List ℕ) (from : ℕ) → length piece ≡ pieceLength → from + pieceLength ≤ length whole → sets piece 0 (span from pieceLength whole) ≡ span from pieceLength whole
+piece-whole whole piece from long room = sets-whole piece (span from pieceLength whole) (long ∙ sym (length-span from pieceLength whole room))
 
-pub one-piece : (whole piece : List ℕ) → length piece ≡ 512 → length whole ≡ 512 → sets piece 0 (span 0 512 whole) ≡ whole
-one-piece whole piece long size = piece-whole whole piece 0 long (omega arith) ∙ span-all whole 512 (omega arith)
+pub one-piece : (whole piece : List ℕ) → length piece ≡ pieceLength → length whole ≡ pieceLength → sets piece 0 (span 0 pieceLength whole) ≡ whole
+one-piece whole piece long size = piece-whole whole piece 0 long (omega arith) ∙ span-all whole pieceLength (omega arith)
 
 -- ---- the first place that is not zero, looked for piece by piece
 
-module _ (whole : List ℕ) (from place : ℕ) (room : from + 512 ≤ length whole) (e : place ≡ lowest (nonzero (span from 512 whole))) where
-  parts : drop from whole ≡ span from 512 whole ++ drop (from + 512) whole
+module _ (whole : List ℕ) (from place : ℕ) (room : from + pieceLength ≤ length whole) (e : place ≡ lowest (nonzero (span from pieceLength whole))) where
+  parts : drop from whole ≡ span from pieceLength whole ++ drop (from + pieceLength) whole
   unfolding span
-  parts = sym (take-append-drop 512 (drop from whole)) ∙ ap (λ (l : List ℕ). take 512 (drop from whole) ++ l) (drop-drop 512 from whole)
+  parts = sym (take-append-drop pieceLength (drop from whole)) ∙ ap (λ (l : List ℕ). take pieceLength (drop from whole) ++ l) (drop-drop pieceLength from whole)
 
-  pub first-here : place < 512 → place ≡ lowest (nonzero (drop from whole))
+  pub first-here : place < pieceLength → place ≡ lowest (nonzero (drop from whole))
   first-here h =
-      e ∙ sym (ap (λ (l : List ℕ). lowest (nonzero l)) parts ∙ first-in-front (span from 512 whole) (drop (from + 512) whole) (omega (arith, length-span from 512 whole room)))
+      e ∙ sym (ap (λ (l : List ℕ). lowest (nonzero l)) parts ∙ first-in-front (span from pieceLength whole) (drop (from + pieceLength) whole) (omega (arith, length-span from pieceLength whole room)))
 
-  pub first-later : 512 ≤ place → from + 512 + lowest (nonzero (drop (from + 512) whole)) ≡ from + lowest (nonzero (drop from whole))
+  pub first-later : pieceLength ≤ place → from + pieceLength + lowest (nonzero (drop (from + pieceLength) whole)) ≡ from + lowest (nonzero (drop from whole))
   first-later h =
-      let behind : lowest (nonzero (drop from whole)) ≡ length (span from 512 whole) + lowest (nonzero (drop (from + 512) whole)) =
-      ap (λ (l : List ℕ). lowest (nonzero l)) parts ∙ first-in-back (span from 512 whole) (drop (from + 512) whole) (omega (arith, length-span from 512 whole room)) in
-      omega (arith, length-span from 512 whole room)
+      let behind : lowest (nonzero (drop from whole)) ≡ length (span from pieceLength whole) + lowest (nonzero (drop (from + pieceLength) whole)) =
+      ap (λ (l : List ℕ). lowest (nonzero l)) parts ∙ first-in-back (span from pieceLength whole) (drop (from + pieceLength) whole) (omega (arith, length-span from pieceLength whole room)) in
+      omega (arith, length-span from pieceLength whole room)
 
 pub first-nowhere : (whole : List ℕ) (from : ℕ) → length whole ≤ from → from ≡ from + lowest (nonzero (drop from whole))
 unfolding nonzero
@@ -124,20 +124,20 @@ abbrev pub moved : Format → ℕ → ℕ → List ℕ → List ℕ → List ℕ
 moved F parity member bytes new = xors (xors (dataOf F (blockOf F bytes parity)) (dataOf F (blockOf F bytes member))) new
 
 -- a piece of them, where the pieces before it are put there
-pub moved-next : (F : Format) (parity member from : ℕ) (bytes new : List ℕ) → member ≢ parity → from + 512 ≤ F .dataLength → (whole here : List ℕ)
+pub moved-next : (F : Format) (parity member from : ℕ) (bytes new : List ℕ) → member ≢ parity → from + pieceLength ≤ F .dataLength → (whole here : List ℕ)
     → whole ≡ moved F parity member bytes new → length whole ≡ F .dataLength
     → here ≡ sets bytes (F .blockLength * parity) (span 0 from whole)
-    → xors (xors (span (F .blockLength * parity + from) 512 here) (span (F .blockLength * member + from) 512 here)) (span from 512 new) ≡ span from 512 whole
+    → xors (xors (span (F .blockLength * parity + from) pieceLength here) (span (F .blockLength * member + from) pieceLength here)) (span from pieceLength new) ≡ span from pieceLength whole
 moved-next F parity member from bytes new apart fits whole here e long eh =
     let of = dataOf F (blockOf F bytes parity) in
     let own = dataOf F (blockOf F bytes member) in
     let step = F .blockLength in
     let done = span 0 from whole in
     let count : length done ≡ from = length-span 0 from whole (omega arith) in
-    let first : span (step * parity + from) 512 here ≡ span from 512 of =
-    ap (span (step * parity + from) 512) eh ∙ span-sets-above bytes (step * parity + from) 512 (step * parity) done (omega arith) ∙ sym (span-data F from 512 parity bytes fits) in
-    let second : span (step * member + from) 512 here ≡ span from 512 own =
-    ap (span (step * member + from) 512) eh ∙ span-apart F bytes parity done (omega (arith, F .block-parts)) member apart from 512 (omega (arith, F .block-parts))
-    ∙ sym (span-data F from 512 member bytes fits) in
-    ap₂ (λ (x y : List ℕ). xors (xors x y) (span from 512 new)) first second
-    ∙ sym (ap (span from 512) e ∙ span-xors from 512 (xors of own) new ∙ ap (λ (x : List ℕ). xors x (span from 512 new)) (span-xors from 512 of own))
+    let first : span (step * parity + from) pieceLength here ≡ span from pieceLength of =
+    ap (span (step * parity + from) pieceLength) eh ∙ span-sets-above bytes (step * parity + from) pieceLength (step * parity) done (omega arith) ∙ sym (span-data F from pieceLength parity bytes fits) in
+    let second : span (step * member + from) pieceLength here ≡ span from pieceLength own =
+    ap (span (step * member + from) pieceLength) eh ∙ span-apart F bytes parity done (omega (arith, F .block-parts)) member apart from pieceLength (omega (arith, F .block-parts))
+    ∙ sym (span-data F from pieceLength member bytes fits) in
+    ap₂ (λ (x y : List ℕ). xors (xors x y) (span from pieceLength new)) first second
+    ∙ sym (ap (span from pieceLength) e ∙ span-xors from pieceLength (xors of own) new ∙ ap (λ (x : List ℕ). xors x (span from pieceLength new)) (span-xors from pieceLength of own))

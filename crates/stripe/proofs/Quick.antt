@@ -18,7 +18,7 @@ use Rattle.xor.proofs.Combination.{length-combination, bytes-addAll}
 use Rattle.crc.specs.Crc.{bitsOf, Bytes, Within}
 use Rattle.format.specs.Formats.{Format, guard, blank, spare, settled}
 use Rattle.format.specs.Methods.{formatOf}
-use Rattle.format.proofs.Laws.{combines, notices, settled-first}
+use Rattle.format.proofs.Laws.{combines, notices, settled-first, settled-large}
 use Rattle.format.proofs.Combined.{spare-suc, settled-plain, guard-combination}
 use Rattle.crc.proofs.Linear.{bitsOf-xors}
 use Rattle.layout.specs.Ranges.{Sound}
@@ -28,8 +28,10 @@ use Rattle.tag.proofs.Guards.{own-plain}
 use Rattle.tag.proofs.Cases.{good-guard}
 use Rattle.tag.proofs.Tagged.{length-data, bytes-of-data}
 use Rattle.verdict.specs.Verdicts.{combinedGuards, quickRefusal, comparedWith, quickNumbers}
+use Rattle.verdict.specs.QuickWide.{wideDue, quickWideNumbers}
 use Rattle.verdict.proofs.Verdicts.{zeros-at}
 use Rattle.verdict.proofs.Quick.{sound-quick, compared-fits, compared-differs}
+use Rattle.verdict.proofs.QuickWide.{due-is}
 use Rattle.stripe.specs.Stripes.{storedGuard, Whole}
 use Rattle.stripe.specs.Verdicts.{scrubBlocks, quickOf}
 use Rattle.stripe.proofs.Guards.{together-guards}
@@ -132,3 +134,9 @@ module _ (a : Array) (s : ℕ) (blocks : List (List ℕ)) (sound : Sound a) (who
 pub quick-of-first : (a : Array) (guards : List ℕ) → a .method ≡ 1 → quickOf a guards ≡ quickNumbers guards
 unfolding quickNumbers
 quick-of-first a guards e = ap (λ (due : ℕ). comparedWith due guards) (ap (λ (m : ℕ). settled (formatOf m) (a .members)) e ∙ settled-first (a .members))
+
+-- by method 3, of as many guards as there are members, it is that of guards of thirty-two bits
+pub quick-of-third : (a : Array) (guards : List ℕ) → a .method ≡ 3 → length guards ≡ a .members → quickOf a guards ≡ quickWideNumbers guards
+unfolding quickWideNumbers
+quick-of-third a guards e all =
+    ap (λ (due : ℕ). comparedWith due guards) (settled-large (a .method) (a .members) e ∙ sym (due-is (a .members)) ∙ ap wideDue (sym all))

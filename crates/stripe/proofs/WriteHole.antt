@@ -113,7 +113,7 @@ module _ (method size zeros : ℕ) (sound : Sound (shelf method)) (data-size : s
     refused carrying one two three none =
         cut-rebuild (shelf method) 0 1 written (replicate size 0) before damaged (lit< tt) cut-short (hole .loss) carrying .0 .1
         (λ fits.
-        let e = fits-exactly (shelf method) 0 1 written (replicate size 0) before damaged (lit< tt) cut-short (hole .loss) .0 fits in
+        let e = fits-exactly (shelf method) 0 1 written (replicate size 0) before damaged (lit< tt) cut-short (hole .loss) carrying .0 fits in
         let z : _≡_ {A = ℕ} 0xFFFC 3 =
         sym (ap₂ bitXor (ap₂ bitXor (ap (guard F) was-second ∙ two) (ap (guard F) was-first ∙ one)) none) ∙ e ∙ ap (guard F) made-wrong ∙ three in
         omega arith)

@@ -19,23 +19,22 @@ ghost use lib.Seq.{sets};
 ghost use Rattle.stripe.specs.Tables.{span};
 ghost use Rattle.layout.specs.Arrays.{stripeRefusal};
 ghost use Rattle.layout.specs.Places.{parityMember, ownerRefusal};
-ghost use Rattle.format.specs.Formats.{guard, guardsOf, settled};
+ghost use Rattle.format.specs.Formats.{guard, guardsOf, settled, pieceLength};
 ghost use Rattle.format.specs.Methods.{formatOf};
-ghost use Rattle.tag.specs.Blocks.{formatAt, dataOf};
-ghost use Rattle.tag.specs.Tags.{standingAt, good, guardDue, due, tagBytes, taggedBy};
+ghost use Rattle.tag.specs.Blocks.{formatAt, dataOf, tagOf};
+ghost use Rattle.tag.specs.Tags.{found, standing, expected, standingAt, good, guardDue, due, tagBytes, taggedBy};
 ghost use Rattle.verdict.specs.Verdicts.{combinedGuards};
 ghost use Rattle.stripe.specs.Stripes.{stripeLength, blockOf, goodMembers, othersGood, othersData, storedGuard, othersGuards, guardsFit};
 ghost use Rattle.stripe.specs.Jobs.{withBlock};
 use copy::put;
+use format::PIECE;
 use layout::Array;
+use tag::Fields;
 use tag::GOOD;
 use verdict::combined_wide;
 
 // Bytes of a row: what stays in registers while the members go by.
 const ROW: usize = 128;
-
-// Bytes of a piece: data are whole pieces, and no job has a buffer for more than one.
-const PIECE: usize = 512;
 
 // What a verified read says: the block's own data, data rebuilt from the other members, or the data of a block that is not to be checked.
 pub enum Reading {
@@ -97,9 +96,9 @@ fn combined(
     to: usize,
 )
     requires { ⌜ formatOf method .blockLength * members ≤ length (now bytes) ⌝ }
-    requires { ⌜ from + 512 ≤ formatOf method .dataLength ⌝ }
-    requires { ⌜ to + 512 ≤ length (now out) ⌝ }
-    ensures { λ _. ⌜ now (out .exit) ≡ sets (now (out .entry)) to (span from 512 (othersData (formatOf method) members skip (now (bytes .entry)))) ⌝ }
+    requires { ⌜ from + pieceLength ≤ formatOf method .dataLength ⌝ }
+    requires { ⌜ to + pieceLength ≤ length (now out) ⌝ }
+    ensures { λ _. ⌜ now (out .exit) ≡ sets (now (out .entry)) to (span from pieceLength (othersData (formatOf method) members skip (now (bytes .entry)))) ⌝ }
 {
     let mut at: usize = 0;
     while at < PIECE {
@@ -126,30 +125,34 @@ fn make_data(method: u8, members: usize, member: usize, bytes: &mut [u8])
     }
 }
 
-// How a member's block stands at its place, by the guard of its data and the member that holds the stripe's parity.
+// The fields of a member's tag, as they stand.
+fn stored(method: u8, bytes: &[u8], member: usize) -> Fields
+    requires { ⌜ formatOf method .blockLength * member + formatOf method .blockLength ≤ length (now bytes) ⌝ }
+    ensures { λ r. ⌜ r ≡ found (formatOf method) (tagOf (formatOf method) (blockOf (formatOf method) (now (bytes .entry)) member)) ⌝ }
+{
+    let at = block_at(method, member) + format::data_length(method);
+    tag::fields_at(bytes, at, format::quarter(method))
+}
+
+// How a block with these fields and this guard of its data stands on a member, by the member that holds the stripe's parity.
 fn standing_by(
     array: Array,
     stripe: u64,
     parity: usize,
-    bytes: &[u8],
     member: usize,
+    found: Fields,
     data_guard: u32,
 ) -> u8
     requires { ⌜ ownerRefusal array stripe member ≡ 0 ⌝ }
-    requires { ⌜ formatAt array .blockLength * member + formatAt array .blockLength ≤ length (now bytes) ⌝ }
-    requires { ⌜ data_guard ≡ guard (formatAt array) (dataOf (formatAt array) (blockOf (formatAt array) (now bytes) member)) ⌝ }
     requires { ⌜ parity ≡ parityMember array stripe ⌝ }
-    ensures { λ r. ⌜ r ≡ standingAt array stripe member (blockOf (formatAt array) (now (bytes .entry)) member) ⌝ }
+    ensures { λ r. ⌜ r ≡ standing (formatAt array) found (expected array stripe member found data_guard) ⌝ }
 {
-    let method = array.method;
-    let at = block_at(method, member) + format::data_length(method);
-    let found = tag::found(method, bytes, at);
     let owned = layout::owner_beside(array, stripe, parity, member);
     let expected = tag::expected_to(array, owned, found, data_guard);
-    tag::standing(method, found, expected)
+    tag::standing(array.method, found, expected)
 }
 
-// The same, with the guard of its data taken.
+// How a member's block stands at its place.
 fn standing(array: Array, stripe: u64, bytes: &[u8], member: usize) -> u8
     requires { ⌜ ownerRefusal array stripe member ≡ 0 ⌝ }
     requires { ⌜ formatAt array .blockLength * member + formatAt array .blockLength ≤ length (now bytes) ⌝ }
@@ -160,7 +163,8 @@ fn standing(array: Array, stripe: u64, bytes: &[u8], member: usize) -> u8
     let end = from + format::data_length(method);
     let data_guard = format::guard(method, &bytes[from..end]);
     let parity = layout::parity_member(array, stripe);
-    standing_by(array, stripe, parity, bytes, member, data_guard)
+    let found = stored(method, bytes, member);
+    standing_by(array, stripe, parity, member, found, data_guard)
 }
 
 // Whether a member's block is good at its place.
@@ -191,7 +195,8 @@ fn passes(
     if member == skip {
         return true;
     }
-    standing_by(array, stripe, parity, bytes, member, data_guard) == GOOD
+    let found = stored(array.method, bytes, member);
+    standing_by(array, stripe, parity, member, found, data_guard) == GOOD
 }
 
 // Whether every member but `skip` is good, by the guards of the members' data.
@@ -218,8 +223,7 @@ fn stored_guard(method: u8, bytes: &[u8], member: usize) -> u64
     requires { ⌜ formatOf method .blockLength * member + formatOf method .blockLength ≤ length (now bytes) ⌝ }
     ensures { λ r. ⌜ r ≡ storedGuard (formatOf method) (blockOf (formatOf method) (now (bytes .entry)) member) ⌝ }
 {
-    let at = block_at(method, member) + format::data_length(method);
-    let found = tag::found(method, bytes, at);
+    let found = stored(method, bytes, member);
     found.guard
 }
 
@@ -283,7 +287,7 @@ fn write_tag(array: Array, stripe: u64, parity: usize, member: usize, guard: u64
     let to = block_at(method, member) + format::data_length(method);
     let place = layout::owner_beside(array, stripe, parity, member);
     let due = tag::due_to(array, place, guard, guard);
-    tag::write(method, due, bytes, to);
+    tag::write(due, bytes, to, format::quarter(method));
 }
 
 // Writes a block at its place: the data, and the tag due there with this guard.

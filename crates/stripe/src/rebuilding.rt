@@ -9,7 +9,6 @@ ghost use Rattle.layout.specs.Places.{ownerRefusal};
 ghost use Rattle.stripe.specs.Stripes.{stripeLength};
 ghost use Rattle.stripe.specs.Jobs.{rebuildRefusal, rebuilt, rebuildBytes};
 ghost use Rattle.stripe.specs.Steps.{sourcesRefusal, fitting};
-use crate::PIECE;
 use crate::block_at;
 use crate::combined;
 use crate::made;
@@ -18,6 +17,7 @@ use crate::others_good;
 use crate::plain_guard;
 use crate::write_block;
 use crate::write_tag;
+use format::PIECE;
 use layout::Array;
 
 // The refusal number of a rebuild as far as the other members decide it: the place's own, the stripe's length, then whether every other

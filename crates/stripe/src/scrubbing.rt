@@ -1,5 +1,5 @@
 // The full scrub of a stripe.
-use crate::PIECE;
+use format::PIECE;
 use layout::Array;
 use verdict::Scrubbed;
 ghost use mathlib.Core.Path.{_≡_};
@@ -23,7 +23,9 @@ fn standings(array: Array, stripe: u64, bytes: &[u8]) -> [u8; 16]
     let mut standing = [0u8; 16];
     let mut member: usize = 0;
     while member < members {
-        standing[member] = crate::standing_by(array, stripe, parity, bytes, member, guards[member]);
+        let found = crate::stored(method, bytes, member);
+        let how = crate::standing_by(array, stripe, parity, member, found, guards[member]);
+        standing[member] = how;
         member += 1;
     }
     standing

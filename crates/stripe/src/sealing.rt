@@ -14,8 +14,8 @@ ghost use Rattle.stripe.specs.Steps.{dataBlock, dataWritten};
 use crate::block_at;
 use crate::make_data;
 use crate::wide;
-use crate::write_block;
 use crate::write_tag;
+use copy::put;
 use layout::Array;
 use verdict::combined_wide;
 
@@ -70,15 +70,8 @@ fn write_member(
     let method = array.method;
     let from = data_at(method, index);
     let end = from + format::data_length(method);
-    write_block(
-        array,
-        stripe,
-        parity,
-        member,
-        &content[from..end],
-        data_guard as u64,
-        bytes,
-    );
+    put(bytes, block_at(method, member), &content[from..end]);
+    write_tag(array, stripe, parity, member, data_guard as u64, bytes);
 }
 
 // Writes the blocks of all data members, by the guards of the parts of the data.

@@ -10,16 +10,17 @@ ghost use mathlib.Core.Bool.{false};
 ghost use lib.Bits.{bitXor};
 ghost use Rattle.stripe.specs.Stripes.{blockOf, storedGuard};
 ghost use Rattle.stripe.specs.Jobs.{replaceRefusal, replaced, unlessRefused, updateRefusal, updateBytes};
+ghost use Rattle.format.specs.Formats.{pieceLength};
 ghost use Rattle.format.specs.Methods.{formatOf};
 ghost use Rattle.tag.specs.Blocks.{dataOf};
 ghost use Rattle.xor.specs.Xors.{xors};
-use crate::PIECE;
 use crate::block_at;
 use crate::is_good;
 use crate::stored_guard;
 use crate::write_block;
 use crate::write_tag;
 use copy::put;
+use format::PIECE;
 use layout::Array;
 use layout::Placed;
 
@@ -55,11 +56,11 @@ fn moved_piece(
     from: usize,
     piece: &mut [u8],
 )
-    requires { ⌜ parity + 512 ≤ length (now bytes) ⌝ }
-    requires { ⌜ old + 512 ≤ length (now bytes) ⌝ }
-    requires { ⌜ from + 512 ≤ length (now content) ⌝ }
-    requires { ⌜ length (now piece) ≡ 512 ⌝ }
-    ensures { λ _. ⌜ now (piece .exit) ≡ xors (xors (span parity 512 (now (bytes .entry))) (span old 512 (now (bytes .entry)))) (span from 512 (now (content .entry))) ⌝ }
+    requires { ⌜ parity + pieceLength ≤ length (now bytes) ⌝ }
+    requires { ⌜ old + pieceLength ≤ length (now bytes) ⌝ }
+    requires { ⌜ from + pieceLength ≤ length (now content) ⌝ }
+    requires { ⌜ length (now piece) ≡ pieceLength ⌝ }
+    ensures { λ _. ⌜ now (piece .exit) ≡ xors (xors (span parity pieceLength (now (bytes .entry))) (span old pieceLength (now (bytes .entry)))) (span from pieceLength (now (content .entry))) ⌝ }
 {
     let parity_end = parity + PIECE;
     put(piece, 0, &bytes[parity..parity_end]);

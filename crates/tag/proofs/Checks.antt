@@ -18,10 +18,9 @@ use Rattle.layout.specs.declared.Array.{Array}
 use Rattle.layout.proofs.Answers.{after-refused, answer-refused, refuse-none, refuse-last}
 use Rattle.layout.proofs.Ranges.{owner-else}
 use Rattle.tag.specs.Blocks.{formatAt, dataOf, tagOf}
-use Rattle.tag.specs.Tags.{found, tagWithin, dueAt, guardDue, expected, faults, exempt, standing, foundIn, expectedAt, standingAt, good, unchecked, kindOf, sideBySide, told, checkRefusal, checkNumbers}
+use Rattle.tag.specs.Tags.{found, dueAt, guardDue, expected, faults, exempt, standing, foundIn, expectedAt, standingAt, good, unchecked, kindOf, sideBySide, told, checkRefusal, checkNumbers}
 use Rattle.tag.specs.declared.Fields.{Fields}
 use Rattle.tag.proofs.Owed.{due-somewhere}
-use Rattle.tag.proofs.Within.{tag-inside}
 use Rattle.tag.proofs.Cases.{standing-exempt, standing-faults}
 
 -- ---- what is told by the fields found and due
@@ -124,7 +123,7 @@ module _ (a : Array) (stripe member : ℕ) where
 
     -- the same by steps, as the code goes
     pub check-by-steps : checkRefusal a stripe member (length block) ≡ 0 → (d g : ℕ) (e f : Fields) → d ≡ formatAt a .dataLength →
-        g ≡ guard (formatAt a) (take (d - 0) block) → f ≡ found (formatAt a) (tagWithin (formatAt a) block d) → e ≡ dueAt a stripe member (guardDue a stripe member (f .guard) g) →
+        g ≡ guard (formatAt a) (take (d - 0) block) → f ≡ found (formatAt a) (take (formatAt a .tagLength) (drop d block)) → e ≡ dueAt a stripe member (guardDue a stripe member (f .guard) g) →
         1 ∷ 0 ∷ told (formatAt a) f e ≡ checkNumbers a stripe member block
     unfolding dataOf tagOf
     check-by-steps sound d g e f ed of-data read due-there =
@@ -132,9 +131,8 @@ module _ (a : Array) (stripe member : ℕ) where
         let here = check-sound (length block) sound in
         let first : d - 0 ≡ F .dataLength = omega arith in
         let short : length (drop (F .dataLength) block) ≤ F .tagLength = rw (length-drop (F .dataLength) block) (omega (arith, F .block-parts)) in
-        let inside : F .dataLength + F .tagLength ≤ length block = omega (arith, F .block-parts) in
-        let whole : tagWithin F block d ≡ drop (F .dataLength) block =
-        ap (tagWithin F block) ed ∙ tag-inside F block (F .dataLength) inside ∙ take-all (F .tagLength) (drop (F .dataLength) block) short in
+        let whole : take (F .tagLength) (drop d block) ≡ drop (F .dataLength) block =
+        ap (λ (k : ℕ). take (F .tagLength) (drop k block)) ed ∙ take-all (F .tagLength) (drop (F .dataLength) block) short in
         let is : f ≡ foundIn a block = read ∙ ap (found F) whole in
         let own : g ≡ guard F (dataOf F block) = of-data ∙ ap (λ (k : ℕ). guard F (take k block)) first in
         let right : e ≡ expectedAt a stripe member block =

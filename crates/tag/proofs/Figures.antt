@@ -4,7 +4,7 @@ use mathlib.Core.Path.{_≡_, refl, sym, _∙_}
 use mathlib.Core.Bool.{true}
 use mathlib.Core.Logic.{_↔_}
 use mathlib.Core.List.{List, [], _∷_}
-use Prim.Native.Nat.{ℕ, _+_, _*_, _<_}
+use Prim.Native.Nat.{ℕ, _+_, _*_, _/_, _<_}
 use native.Mathlib.Nat.{div-one}
 use native.Mathlib.Omega.{arith}
 use borrow.Author.Tests.{eqb-true, eq-eqb}
@@ -15,7 +15,7 @@ use Rattle.format.specs.Methods.{formatOf}
 use Rattle.layout.specs.Arrays.{arrayOf}
 use Rattle.layout.specs.Places.{parityMember, lowestBlock, blockAt, indexAt, blockNamed, referenceOf}
 use Rattle.layout.specs.declared.Array.{Array}
-use Rattle.tag.specs.Numbers.{bytesOf}
+use Rattle.tag.specs.Numbers.{bytesOf, numberOf}
 use Rattle.tag.specs.Blocks.{tagOf}
 use Rattle.tag.specs.Tags.{tagBytes, found, applicationDue, referenceDue, guardDue, due, faults, exempt, standing, expected, told, checkedNumbers}
 use Rattle.tag.specs.declared.Fields.{Fields}
@@ -70,6 +70,54 @@ module _ (block : List ℕ) (long : length block ≡ formatOf 1 .blockLength) wh
       small : (i : ℕ) → getD block i 0 < 256
       small i = bytes i
 
+-- ---- large blocks, of method 3: bytes 4096 to 4099 are the guard, 4100 to 4103 the application tag, the last two of them spare, and 4104 to
+-- 4111 the reference tag
+
+module _ (block : List ℕ) (long : length block ≡ formatOf 3 .blockLength) where
+  pub large-guard-stands : found (formatOf 3) (tagOf (formatOf 3) block) .guard ≡ (getD block 4096 0 * 256 + getD block 4097 0) * 65536 + (getD block 4098 0 * 256 + getD block 4099 0)
+  unfolding formatOf found tagOf
+  large-guard-stands =
+      rw (take-elements block 4096 0 4 (omega arith))
+      (number-of-four (getD block 4096 0) (getD block 4097 0) (getD block 4098 0) (getD block 4099 0))
+
+  pub large-application-stands : found (formatOf 3) (tagOf (formatOf 3) block) .application ≡ (getD block 4100 0 * 256 + getD block 4101 0) * 65536 + (getD block 4102 0 * 256 + getD block 4103 0)
+  unfolding formatOf found tagOf
+  large-application-stands =
+      rw (drop-drop 4 4096 block, take-elements block 4100 0 4 (omega arith))
+      (number-of-four (getD block 4100 0) (getD block 4101 0) (getD block 4102 0) (getD block 4103 0))
+
+  pub large-reference-stands : found (formatOf 3) (tagOf (formatOf 3) block) .reference
+      ≡ numberOf (getD block 4104 0 ∷ getD block 4105 0 ∷ getD block 4106 0 ∷ getD block 4107 0 ∷ getD block 4108 0 ∷ getD block 4109 0 ∷ getD block 4110 0 ∷ getD block 4111 0 ∷ [])
+  unfolding formatOf found tagOf
+  large-reference-stands = rw (drop-drop 8 4096 block, take-elements block 4104 0 8 (omega arith))
+
+  -- not to be checked: bytes 4100 and 4101 are both FFh, whatever the spare ones are
+  pub large-exempt-stands : Bytes block → (exempt (formatOf 3) (found (formatOf 3) (tagOf (formatOf 3) block)) ≡ true) ↔ ((getD block 4100 0 ≡ 0xFF) × (getD block 4101 0 ≡ 0xFF))
+  unfolding exempt formatOf
+  large-exempt-stands bytes = (
+    λ h. let e = eqb-true (application / 65536) 0xFFFF h in (
+      omega (arith, e, large-application-stands, small 4100, small 4101, small 4102, small 4103),
+      omega (arith, e, large-application-stands, small 4100, small 4101, small 4102, small 4103),
+    ),
+    λ h. eq-eqb (application / 65536) 0xFFFF (omega (arith, large-application-stands, h .0, h .1, small 4102, small 4103)),
+  )
+    where
+      application : ℕ
+      application = found (formatOf 3) (tagOf (formatOf 3) block) .application
+
+      small : (i : ℕ) → getD block i 0 < 256
+      small i = bytes i
+
+abbrev largeThree : Array
+largeThree = arrayOf 3 1 7 3
+
+pub large-tags : (tagBytes (formatOf 3) (due largeThree 0 0 0x8BA9B27D)
+    ≡ 0x8B ∷ 0xA9 ∷ 0xB2 ∷ 0x7D ∷ 0x80 ∷ 0x07 ∷ 0x00 ∷ 0x00 ∷ 0x00 ∷ 0x00 ∷ 0x00 ∷ 0x00 ∷ 0x00 ∷ 0x00 ∷ 0x00 ∷ 0x00 ∷ [])
+    × (tagBytes (formatOf 3) (due largeThree 0 2 0x79C2317E)
+    ≡ 0x79 ∷ 0xC2 ∷ 0x31 ∷ 0x7E ∷ 0x00 ∷ 0x07 ∷ 0x00 ∷ 0x00 ∷ 0x00 ∷ 0x00 ∷ 0x00 ∷ 0x00 ∷ 0x00 ∷ 0x00 ∷ 0x00 ∷ 0x01 ∷ [])
+unfolding formatOf tagBytes due applicationDue referenceDue referenceOf blockNamed lowestBlock blockAt indexAt parityMember bytesOf
+large-tags = (refl, refl)
+
 -- ---- what a check tells: the kind, then of guard, application tag and reference tag what was found, what was due, and whether they are the same
 
 abbrev fields : ℕ → ℕ → ℕ → Fields
@@ -87,6 +135,14 @@ pub standing-fields : (standing (formatOf 1) (fields 5 2 3) (fields 1 2 3) ≡ 4
     × (standing (formatOf 1) (fields 5 0xFF00 7) (fields 1 2 3) ≡ 7) × (standing (formatOf 1) (fields 5 0xFFFF 7) (fields 1 2 3) ≡ 8) × (standing (formatOf 1) (fields 1 2 3) (fields 1 2 3) ≡ 0)
 unfolding formatOf exempt standing faults
 standing-fields = (refl, refl, refl, refl, refl, refl)
+
+-- of large blocks a spare byte makes the application tag wrong, unless the mark stands before it; FFFFh in the spare bytes is no mark; a reference
+-- is compared beyond its low thirty-two bits
+pub large-standing-fields : (standing (formatOf 3) (fields 1 0x00070001 3) (fields 1 0x00070000 3) ≡ 2) × (standing (formatOf 3) (fields 5 0xFFFF0001 7) (fields 1 0x00070000 3) ≡ 8)
+    × (standing (formatOf 3) (fields 1 0x0000FFFF 3) (fields 1 0x00070000 3) ≡ 2) × (standing (formatOf 3) (fields 1 0x00070000 0x100000003) (fields 1 0x00070000 3) ≡ 1)
+    × (standing (formatOf 3) (fields 1 0x00070000 3) (fields 1 0x00070000 3) ≡ 0)
+unfolding formatOf exempt standing faults
+large-standing-fields = (refl, refl, refl, refl, refl)
 
 pub check-names : (checkedNumbers Unchecked ≡ 1 ∷ 0 ∷ 2 ∷ 0 ∷ 0 ∷ 0 ∷ 0 ∷ 0 ∷ 0 ∷ 0 ∷ 0 ∷ 0 ∷ [])
     × (checkedNumbers (Told (fields 5 2 3) (fields 1 2 3)) ≡ 1 ∷ 0 ∷ 1 ∷ 5 ∷ 1 ∷ 0 ∷ 2 ∷ 2 ∷ 1 ∷ 3 ∷ 3 ∷ 1 ∷ [])

@@ -19,6 +19,10 @@ use Rattle.tag.specs.declared.Fields.{Fields}
 use Rattle.tag.specs.declared.Checked.{Checked}
 use Rattle.tag.specs.declared.Checked.the-variants.{Refused, Unchecked, Told}
 
+-- the bytes of three fields: a quarter of the tag is the guard's, one the application tag's, two the reference tag's
+abbrev pub bytesBy : ℕ → Fields → List ℕ
+bytesBy quarter f = bytesOf quarter (f .guard) ++ bytesOf quarter (f .application) ++ bytesOf (2 * quarter) (f .reference)
+
 module _ (F : Format) where
   -- the fields fit their bytes
   pub record Fit (f : Fields) : Type 0 where
@@ -26,9 +30,9 @@ module _ (F : Format) where
     pub application-fits : f .application < 256 ^ F .quarter
     pub reference-fits : f .reference < 256 ^ (2 * F .quarter)
 
-  -- the bytes of three fields, and the fields in a tag's bytes: a quarter of the tag is the guard's, one the application tag's, two the reference tag's
+  -- a tag's bytes, and the fields in them
   unfoldable pub tagBytes : Fields → List ℕ
-  tagBytes f = bytesOf (F .quarter) (f .guard) ++ bytesOf (F .quarter) (f .application) ++ bytesOf (2 * F .quarter) (f .reference)
+  tagBytes f = bytesBy (F .quarter) f
 
   unfoldable pub found : List ℕ → Fields
   found tag =
@@ -37,14 +41,6 @@ module _ (F : Format) where
         application = numberOf (take (F .quarter) (drop (F .quarter) tag));
         reference = numberOf (take (2 * F .quarter) (drop (2 * F .quarter) tag));
       }
-
-  -- the bytes of a tag at a place of some bytes; zeros where they do not all lie there
-  unfoldable pub tagWithin : List ℕ → ℕ → List ℕ
-  tagWithin bytes at = cond (leb (at + F .tagLength) (length bytes)) (take (F .tagLength) (drop at bytes)) (replicate (F .tagLength) 0)
-
-  -- bytes with a tag written at a place; as they were where it does not all lie there
-  unfoldable pub tagWritten : Fields → List ℕ → ℕ → List ℕ
-  tagWritten f bytes at = cond (leb (at + F .tagLength) (length bytes)) (sets bytes at (tagBytes f)) bytes
 
 -- the application tag: 80h marks a parity block, then the volume; what follows in its field is zero
 unfoldable pub applicationDue : Array → ℕ → ℕ → ℕ

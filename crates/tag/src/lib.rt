@@ -11,7 +11,7 @@ ghost use lib.ListN.{length, take, drop};
 ghost use lib.Seq.{sets};
 ghost use Rattle.format.specs.Methods.{formatOf};
 ghost use Rattle.tag.specs.Numbers.{bytesOf, numberOf};
-ghost use Rattle.tag.specs.Tags.{tagWithin, tagWritten, found, dueTo, faults, exempt, standing, isBad, told, checkRefusal, checkNumbers, checkedNumbers};
+ghost use Rattle.tag.specs.Tags.{bytesBy, dueTo, faults, exempt, standing, isBad, told, checkRefusal, checkNumbers, checkedNumbers};
 
 // What marks a parity block in its application tag, above the volume.
 const PARITY: u16 = 0x8000;
@@ -117,27 +117,14 @@ fn eight_bytes(fields: Fields) -> [u8; 8]
     ]
 }
 
-// The fields of a tag that begins at a place of a slice; zeros where it does not all lie there.
-pub fn found(method: u8, bytes: &[u8], at: usize) -> Fields
-    ensures { λ r. ⌜ r ≡ found (formatOf method) (tagWithin (formatOf method) (now (bytes .entry)) at) ⌝ }
+// The fields of a tag that lies at a place, by a quarter of its length.
+fn fields_by(bytes: &[u8], at: usize, quarter: usize) -> Fields
+    requires { ⌜ at + 4 * quarter ≤ length (now bytes) ⌝ }
+    requires { ⌜ quarter ≤ 4 ⌝ }
+    ensures { λ r. ⌜ r .guard ≡ numberOf (take quarter (drop at (now (bytes .entry)))) ⌝ }
+    ensures { λ r. ⌜ r .application ≡ numberOf (take quarter (drop (at + quarter) (now (bytes .entry)))) ⌝ }
+    ensures { λ r. ⌜ r .reference ≡ numberOf (take (2 * quarter) (drop (at + 2 * quarter) (now (bytes .entry)))) ⌝ }
 {
-    let tag = format::tag_length(method);
-    let quarter = format::quarter(method);
-    let length = bytes.len();
-    if length < tag {
-        return Fields {
-            guard: 0,
-            application: 0,
-            reference: 0,
-        };
-    }
-    if length - tag < at {
-        return Fields {
-            guard: 0,
-            application: 0,
-            reference: 0,
-        };
-    }
     let second = at + quarter;
     let half = 2 * quarter;
     let third = at + half;
@@ -148,22 +135,29 @@ pub fn found(method: u8, bytes: &[u8], at: usize) -> Fields
     }
 }
 
-// Writes a tag at a place of a slice, each field with its highest byte first; nothing where it does not all lie there.
-pub fn write(method: u8, fields: Fields, bytes: &mut [u8], at: usize)
-    ensures { λ _. ⌜ now (bytes .exit) ≡ tagWritten (formatOf method) fields (now (bytes .entry)) at ⌝ }
+// The same. Most tags have a quarter of two bytes, which then is a number that the compiler knows.
+pub fn fields_at(bytes: &[u8], at: usize, quarter: usize) -> Fields
+    requires { ⌜ at + 4 * quarter ≤ length (now bytes) ⌝ }
+    requires { ⌜ quarter ≤ 4 ⌝ }
+    ensures { λ r. ⌜ r .guard ≡ numberOf (take quarter (drop at (now (bytes .entry)))) ⌝ }
+    ensures { λ r. ⌜ r .application ≡ numberOf (take quarter (drop (at + quarter) (now (bytes .entry)))) ⌝ }
+    ensures { λ r. ⌜ r .reference ≡ numberOf (take (2 * quarter) (drop (at + 2 * quarter) (now (bytes .entry)))) ⌝ }
 {
-    let tag = format::tag_length(method);
-    let quarter = format::quarter(method);
+    if quarter == 2 {
+        return fields_by(bytes, at, 2);
+    }
+    fields_by(bytes, at, quarter)
+}
+
+// Writes a tag where it has room, by a quarter of its length, each field with its highest byte first.
+pub fn write(fields: Fields, bytes: &mut [u8], at: usize, quarter: usize)
+    requires { ⌜ at + 4 * quarter ≤ length (now bytes) ⌝ }
+    requires { ⌜ quarter ≤ 4 ⌝ }
+    ensures { λ _. ⌜ now (bytes .exit) ≡ sets (now (bytes .entry)) at (bytesBy quarter fields) ⌝ }
+{
     let guard = fields.guard;
     let application = fields.application;
     let reference = fields.reference;
-    let length = bytes.len();
-    if length < tag {
-        return;
-    }
-    if length - tag < at {
-        return;
-    }
     if quarter == 2 {
         let tag = eight_bytes(fields);
         put(bytes, at, &tag);
@@ -311,7 +305,7 @@ pub fn check(array: Array, stripe: u64, member: usize, block: &[u8]) -> Checked
     }
     let data = format::data_length(method);
     let guard = format::guard(method, &block[0..data]);
-    let found = crate::found(method, block, data);
+    let found = fields_at(block, data, format::quarter(method));
     let owned = layout::owner(array, stripe, member);
     said(method, found, expected_to(array, owned, found, guard))
 }

@@ -18,6 +18,10 @@ use Rattle.verdict.proofs.Quick.{sound-quick, compared-refused, compare
 
 -- ---- what is due
 
+pub due-is : (n : ℕ) → wideDue n ≡ 0x98F94189 * (n % 2)
+unfolding wideDue
+due-is n = ap (λ (b : ℕ). b * (n % 2)) blank-block
+
 pub due-even : (n : ℕ) → n % 2 ≡ 0 → wideDue n ≡ 0
 unfolding wideDue
 due-even n e = ap (λ (k : ℕ). blank 4096 * k) e ∙ mul-zero (blank 4096)

@@ -2,15 +2,11 @@
 
 use super::Outcome;
 use crate::random::Random;
-use model::guard;
+use model::format::{Format, in_bytes};
 use model::layout::{Array, Owner};
-use model::stripe::{
-    self, APPLICATION, BLOCK, DATA, Fits, UNCHECKED, Verdict, guard_of, is_combined,
-};
+use model::stripe::{self, Fits, UNCHECKED, Verdict, guard_of, is_combined};
+use model::{crc32c, guard};
 use std::ops::Range;
-
-/// The guard of a block.
-const GUARD: Range<usize> = 512..514;
 
 /// How many stripes are tried of each number of members.
 const STRIPES_EACH: usize = 1_430;
@@ -26,8 +22,15 @@ pub const FAR_STRIPES: [u64; 6] = [0, 268_435_457, 1 << 32, (1 << 32) + 1, 1 << 
 pub const FAR_MEMBERS: [usize; 11] = [0, 1, 2, 17, 18, 255, 256, 259, 65_539, (1 << 32) + 5, usize::MAX];
 
 /// The methods, and numbers that are none.
-pub const METHODS: [u8; 2] = [1, 2];
-pub const FAR_METHODS: [u8; 7] = [0, 3, 4, 128, 129, 130, 255];
+pub const METHODS: [u8; 3] = [1, 2, 3];
+pub const FAR_METHODS: [u8; 7] = [0, 4, 128, 129, 130, 131, 255];
+
+/// How often each method comes up where it is any: a stripe of method 3 has eight times the bytes, and takes as much longer.
+const ANY_METHOD: [u8; 5] = [1, 1, 2, 2, 3];
+
+pub fn any_method(random: &mut Random) -> u8 {
+    random.pick(&ANY_METHOD)
+}
 
 /// A volume: any, and often FFh, with which a tag that is due comes nearest to the mark of an unchecked block.
 pub fn any_volume(random: &mut Random) -> u8 {
@@ -44,7 +47,7 @@ pub fn array(random: &mut Random) -> Array {
         members: random.between(3, 16) as usize,
         stripes,
         volume: any_volume(random),
-        method: random.pick(&METHODS),
+        method: any_method(random),
     }
 }
 
@@ -93,20 +96,35 @@ pub fn any_member(array: &Array, random: &mut Random) -> usize {
     any_below(array.members.min(300) as u64, random) as usize
 }
 
-/// A length, now and then not the one that is due.
-pub fn any_length(due: usize, random: &mut Random) -> usize {
-    if random.one_in(4) {
-        let less = [1, DATA, BLOCK, due].map(|less| due.saturating_sub(less));
-        let more = [1, DATA, BLOCK, due].map(|more| due + more);
-        return random.pick(&[less, more].concat());
+/// A length that is due in a format of blocks, now and then not the one that is due by this method, but some bytes or blocks less or more, or what is due
+/// in the other format.
+pub fn any_length(method: u8, due: impl Fn(&Format) -> usize, random: &mut Random) -> usize {
+    let format = Format::of(method);
+    let length = due(&format);
+    if !random.one_in(4) {
+        return length;
     }
-    due
+    let others = METHODS.map(|other| due(&Format::of(other)));
+    if random.one_in(3) {
+        return random.pick(&others);
+    }
+    let by = random.pick(&[1, format.tag(), format.data, format.block(), length]);
+    random.pick(&[length.saturating_sub(by), length + by])
+}
+
+/// A place in a block's data: any, and often one at an end of them, or where those of the other format end.
+pub fn any_place(format: &Format, random: &mut Random) -> usize {
+    match random.below(8) {
+        0 => random.pick(&[0, 511, 512.min(format.data - 1), format.data - 1]),
+        _ => random.below(format.data),
+    }
 }
 
 /// The bytes of a stripe of an array, now and then too few or too many.
 pub fn any_stripe_bytes(array: &Array, stripe: u64, random: &mut Random) -> Vec<u8> {
-    let length = any_length(array.members.min(20) * BLOCK, random);
-    if array.stripe_fits(stripe).is_err() || length != array.members * BLOCK {
+    let members = array.members.min(20);
+    let length = any_length(array.method, |format| members * format.block(), random);
+    if array.stripe_fits(stripe).is_err() || length != array.stripe_length() {
         return random.bytes(length);
     }
     let mut case = Case::sealed(*array, stripe, random);
@@ -146,30 +164,31 @@ pub struct Case {
     pub bytes: Vec<u8>,
 }
 
-/// Data of `blocks` blocks: random, all alike, or zeros with a few other bytes.
-fn data(blocks: usize, random: &mut Random) -> Vec<u8> {
+/// So many bytes of data: random, all alike, or zeros with a few other bytes.
+fn data(length: usize, random: &mut Random) -> Vec<u8> {
     match random.below(4) {
-        0 => vec![random.pick(&[0x00, 0xFF, 0x80]); blocks * DATA],
+        0 => vec![random.pick(&[0x00, 0xFF, 0x80]); length],
         1 => {
-            let mut data = vec![0; blocks * DATA];
+            let mut data = vec![0; length];
             for _ in 0..random.below(5) {
                 let place = random.below(data.len());
                 data[place] = random.next() as u8;
             }
             data
         }
-        _ => random.bytes(blocks * DATA),
+        _ => random.bytes(length),
     }
 }
 
 impl Case {
     pub fn sealed(array: Array, stripe: u64, random: &mut Random) -> Self {
-        Case::over(array, stripe, data(array.data_members(), random))
+        let length = array.data_members() * array.format().data;
+        Case::over(array, stripe, data(length, random))
     }
 
     /// A stripe sealed over these data.
     pub fn over(array: Array, stripe: u64, data: Vec<u8>) -> Self {
-        let room = vec![0; array.members * BLOCK];
+        let room = vec![0; array.stripe_length()];
         let bytes = stripe::seal(&array, stripe, &data, &room).expect("a fit array and stripe");
         Case {
             array,
@@ -188,6 +207,10 @@ impl Case {
         case
     }
 
+    pub fn format(&self) -> Format {
+        self.array.format()
+    }
+
     pub fn damage(&mut self, random: &mut Random) {
         let member = random.below(self.array.members);
         random.pick(&DAMAGES)(self, member, random);
@@ -195,10 +218,10 @@ impl Case {
 
     /// Another byte at a place of a member's block, which does not make it unchecked.
     pub fn spoil(&mut self, member: usize, place: usize, random: &mut Random) {
+        let mark = self.format().mark();
         let block = self.block(member);
         let before = block[place];
-        while block[place] == before
-            || (APPLICATION.contains(&place) && block[APPLICATION] == UNCHECKED)
+        while block[place] == before || (mark.contains(&place) && block[mark.clone()] == UNCHECKED)
         {
             block[place] = random.next() as u8;
         }
@@ -206,10 +229,11 @@ impl Case {
 
     /// Another byte for each field that shall not fit, in a good block of a member. A byte of the data is one for the guard.
     pub fn spoil_fields(&mut self, member: usize, fits: Fits, random: &mut Random) {
+        let format = self.format();
         let fields = [
-            (fits.guard, 0..APPLICATION.start),
-            (fits.application, APPLICATION),
-            (fits.reference, APPLICATION.end..BLOCK),
+            (fits.guard, 0..format.guard().end),
+            (fits.application, format.application()),
+            (fits.reference, format.reference()),
         ];
         for (_, places) in fields.into_iter().filter(|(fits, _)| !fits) {
             let place = places.start + random.below(places.len());
@@ -233,24 +257,45 @@ impl Case {
     /// Another guard for the parity. By method 2 it stays good, and the stripe is torn.
     pub fn tear_guards(&mut self, random: &mut Random) -> Verdict {
         let parity = self.array.parity_member(self.stripe);
-        let guard = self.stored_guard(parity) ^ random.between(1, 65_535) as u16;
+        let guard = self.stored_guard(parity) ^ random.between(1, self.widest_guard()) as u32;
         self.put_guard(parity, guard);
-        Verdict::Torn { place: DATA }
+        Verdict::Torn {
+            place: self.format().data,
+        }
     }
 
-    pub fn stored_guard(&self, member: usize) -> u16 {
-        stripe::stored_guards(&self.bytes)[member]
+    /// The guards that stand in the stripe.
+    pub fn stored_guards(&self) -> Vec<u32> {
+        stripe::stored_guards(&self.format(), &self.bytes)
     }
 
-    fn put_guard(&mut self, member: usize, guard: u16) {
-        self.block(member)[GUARD].copy_from_slice(&guard.to_be_bytes());
+    pub fn stored_guard(&self, member: usize) -> u32 {
+        self.stored_guards()[member]
+    }
+
+    /// The largest number that a guard can be.
+    fn widest_guard(&self) -> u64 {
+        (1 << (8 * self.format().guard().len())) - 1
+    }
+
+    /// Puts a guard into a tag, as much of it as goes in there.
+    fn put_guard(&mut self, member: usize, guard: u32) {
+        let places = self.format().guard();
+        let guard = in_bytes(u64::from(guard) & self.widest_guard(), places.len());
+        self.block(member)[places].copy_from_slice(&guard);
+    }
+
+    /// The data of a member.
+    pub fn data_of(&self, member: usize) -> &[u8] {
+        &self.bytes[self.format().span(member)][..self.format().data]
     }
 
     /// A member written anew from a place on, data and tag.
     pub fn tear(&mut self, member: usize, place: usize, random: &mut Random) -> Verdict {
         self.spoil(member, place, random);
-        if place + 1 < DATA && random.one_in(2) {
-            let later = random.between(place as u64 + 1, DATA as u64 - 1);
+        let end = self.format().data;
+        if place + 1 < end && random.one_in(2) {
+            let later = random.between(place as u64 + 1, end as u64 - 1);
             self.spoil(member, later as usize, random);
         }
         self.tag_again(member);
@@ -259,31 +304,33 @@ impl Case {
 
     /// Marks a member's block as not to be checked, whatever its other bytes are: as they were, some changed, or any.
     pub fn mark(&mut self, member: usize, random: &mut Random) {
+        let format = self.format();
         let block = self.block(member);
-        match random.below(5) {
-            0 => block[random.below(DATA)] ^= random.between(1, 255) as u8,
-            1 => block[DATA..].fill(0xFF),
-            2 => random.fill(&mut block[DATA..]),
+        match random.below(6) {
+            0 => block[random.below(format.data)] ^= random.between(1, 255) as u8,
+            1 => block[format.data..].fill(0xFF),
+            2 => random.fill(&mut block[format.data..]),
             3 => random.fill(block),
+            4 => random.fill(&mut block[format.spare()]),
             _ => {}
         }
-        block[APPLICATION].copy_from_slice(&UNCHECKED);
+        block[format.mark()].copy_from_slice(&UNCHECKED);
     }
 
     pub fn block(&mut self, member: usize) -> &mut [u8] {
-        &mut self.bytes[stripe::span(member)]
+        let span = self.format().span(member);
+        &mut self.bytes[span]
     }
 
     /// A member's data as they are, with the tag due at a place that may be another. A guard that these data do not tell stays.
     fn tag_as(&mut self, array: Array, stripe: u64, member: usize, place: usize) {
-        let stored = self.stored_guard(member);
-        let block = self.block(member);
+        let data = self.data_of(member);
         let guard = match is_combined(&array, stripe, place) {
-            true => stored,
-            false => guard_of(&array, &block[..DATA]),
+            true => self.stored_guard(member),
+            false => guard_of(&array, data),
         };
-        let tagged = stripe::tagged(&array, stripe, place, &block[..DATA], guard);
-        block.copy_from_slice(&tagged);
+        let tagged = stripe::tagged(&array, stripe, place, data, guard);
+        self.block(member).copy_from_slice(&tagged);
     }
 
     /// A member's tag made due again, so that changed data make the stripe torn.
@@ -304,7 +351,7 @@ pub fn some_wrong(number: usize) -> Fits {
 
 type Damage = fn(&mut Case, usize, &mut Random);
 
-const DAMAGES: [Damage; 33] = [
+const DAMAGES: [Damage; 36] = [
     fields,
     fields,
     flip,
@@ -312,7 +359,9 @@ const DAMAGES: [Damage; 33] = [
     guard_field,
     kind,
     volume,
+    spare,
     reference,
+    far_reference,
     marked,
     marked,
     marked,
@@ -327,13 +376,14 @@ const DAMAGES: [Damage; 33] = [
     torn,
     torn,
     torn_unnoticed,
+    torn_unnoticed,
     update_cut,
     update_cut,
     parity_guard,
     parity_guard_own,
     turned_word,
     fields_reversed,
-    guard_from_ones,
+    guard_from_elsewhere,
     guard_of_other_method,
     parity_tag_combined,
     blank,
@@ -349,25 +399,47 @@ fn fields(case: &mut Case, member: usize, random: &mut Random) {
 /// A few bits of the data.
 fn flip(case: &mut Case, member: usize, random: &mut Random) {
     for _ in 0..random.between(1, 3) {
-        let bit = random.below(8 * DATA);
+        let bit = random.below(8 * case.format().data);
         case.block(member)[bit / 8] ^= 0x80 >> (bit % 8);
     }
 }
 
+/// Another byte at one of these places, or none where there are no places.
+fn change_one(case: &mut Case, member: usize, places: Range<usize>, random: &mut Random) {
+    if !places.is_empty() {
+        let place = places.start + random.below(places.len());
+        case.block(member)[place] ^= random.between(1, 255) as u8;
+    }
+}
+
 fn guard_field(case: &mut Case, member: usize, random: &mut Random) {
-    case.block(member)[512 + random.below(2)] ^= random.between(1, 255) as u8;
+    change_one(case, member, case.format().guard(), random);
 }
 
 fn kind(case: &mut Case, member: usize, random: &mut Random) {
-    case.block(member)[514] ^= random.pick(&[0x80, 0x80, 0x01, 0xFF]);
+    let place = case.format().mark().start;
+    case.block(member)[place] ^= random.pick(&[0x80, 0x80, 0x01, 0xFF]);
 }
 
 fn volume(case: &mut Case, member: usize, random: &mut Random) {
-    case.block(member)[515] ^= random.between(1, 255) as u8;
+    let mark = case.format().mark();
+    change_one(case, member, mark.start + 1..mark.end, random);
+}
+
+/// A byte behind the application tag that is not zero.
+fn spare(case: &mut Case, member: usize, random: &mut Random) {
+    change_one(case, member, case.format().spare(), random);
 }
 
 fn reference(case: &mut Case, member: usize, random: &mut Random) {
-    case.block(member)[516 + random.below(4)] ^= random.between(1, 255) as u8;
+    change_one(case, member, case.format().reference(), random);
+}
+
+/// A reference past thirty-two bits, where there is room for one: the lower half, which alone could say what the block is, is the one due. No block
+/// has such a number while stripes are 2^28 at the most.
+fn far_reference(case: &mut Case, member: usize, random: &mut Random) {
+    let places = case.format().reference();
+    change_one(case, member, places.start..places.end - 4, random);
 }
 
 /// The mark by which T10 lets a reader skip a block.
@@ -377,24 +449,27 @@ fn marked(case: &mut Case, member: usize, random: &mut Random) {
 
 /// A tag that comes near the mark, or has it in another place.
 fn nearly_marked(case: &mut Case, member: usize, random: &mut Random) {
-    let (at, value) = random.pick(&NEAR_MARKS);
+    let (from, value) = random.pick(&NEAR_MARKS);
+    let at = case.format().mark().start.strict_add_signed(from);
     case.block(member)[at..at + value.len()].copy_from_slice(value);
 }
 
-/// Places in a tag and what they hold instead of what is due. Only with a volume of FFh does one of them, at 513, make the mark.
-pub const NEAR_MARKS: [(usize, &[u8]); 12] = [
-    (514, &[0xFF, 0xFE]),
-    (514, &[0xFE, 0xFF]),
-    (514, &[0xFF, 0x7F]),
-    (514, &[0x7F, 0xFF]),
-    (514, &[0xFF, 0x00]),
-    (514, &[0x00, 0xFF]),
-    (514, &[0x80, 0xFF]),
-    (512, &[0xFF, 0xFF]),
-    (513, &[0xFF, 0xFF]),
-    (515, &[0xFF, 0xFF]),
-    (516, &[0xFF, 0xFF]),
-    (516, &[0xFF, 0xFF, 0xFF, 0xFF]),
+/// Places in a tag, counted from where the mark would be, and what they hold instead of what is due. Only with a volume of FFh does one of them, the one
+/// that begins before it, make the mark.
+pub const NEAR_MARKS: [(isize, &[u8]); 13] = [
+    (0, &[0xFF, 0xFE]),
+    (0, &[0xFE, 0xFF]),
+    (0, &[0xFF, 0x7F]),
+    (0, &[0x7F, 0xFF]),
+    (0, &[0xFF, 0x00]),
+    (0, &[0x00, 0xFF]),
+    (0, &[0x80, 0xFF]),
+    (-2, &[0xFF, 0xFF]),
+    (-1, &[0xFF, 0xFF]),
+    (1, &[0xFF, 0xFF]),
+    (2, &[0xFF, 0xFF]),
+    (2, &[0xFF, 0xFF, 0xFF, 0xFF]),
+    (1, &[0xFF, 0xFF, 0xFF]),
 ];
 
 fn swap(case: &mut Case, member: usize, random: &mut Random) {
@@ -406,7 +481,8 @@ fn swap(case: &mut Case, member: usize, random: &mut Random) {
 
 /// Every block one member too far, as if the parity were not stepped over.
 fn shift(case: &mut Case, _: usize, _: &mut Random) {
-    case.bytes.rotate_right(BLOCK);
+    let block = case.format().block();
+    case.bytes.rotate_right(block);
 }
 
 /// A block of the next or the previous stripe, or of one a turn of the parity away.
@@ -445,8 +521,9 @@ fn other_volume(case: &mut Case, member: usize, random: &mut Random) {
 
 /// A member's data written anew with its tag, and the other members as before.
 fn torn(case: &mut Case, member: usize, random: &mut Random) {
-    let (from, bits) = (random.below(8 * DATA), random.between(1, 40) as usize);
-    for bit in from..(from + bits).min(8 * DATA) {
+    let end = 8 * case.format().data;
+    let (from, bits) = (random.below(end), random.between(1, 40) as usize);
+    for bit in from..(from + bits).min(end) {
         case.block(member)[bit / 8] ^= (random.next() as u8) & (0x80 >> (bit % 8));
     }
     case.tag_again(member);
@@ -454,11 +531,21 @@ fn torn(case: &mut Case, member: usize, random: &mut Random) {
 
 /// A torn stripe whose guards fit all the same: the difference is a multiple of the generator.
 fn torn_unnoticed(case: &mut Case, member: usize, random: &mut Random) {
-    let place = random.below(DATA - 2);
-    for (at, byte) in [0x01, 0x8B, 0xB7].into_iter().enumerate() {
+    let change = generator(case.array.method);
+    let place = random.below(case.format().data - change.len() + 1);
+    for (at, byte) in change.iter().enumerate() {
         case.block(member)[place + at] ^= byte;
     }
     case.tag_again(member);
+}
+
+/// The generator of a CRC as the bytes of a run, of which no guard tells: seventeen bits, the highest of each byte first, or by method 3 thirty-three,
+/// the lowest first. By method 2 it is a change like any other.
+pub fn generator(method: u8) -> &'static [u8] {
+    match method {
+        3 => &[0xF1, 0x76, 0xEC, 0x05, 0x01],
+        _ => &[0x01, 0x8B, 0xB7],
+    }
 }
 
 /// A block updated, of which the data or the parity was not written; the new data are any, or the old ones with a byte changed.
@@ -466,14 +553,14 @@ fn update_cut(case: &mut Case, _: usize, random: &mut Random) {
     let parity = case.array.parity_member(case.stripe);
     let index = random.below(case.array.data_members());
     let member = index + usize::from(index >= parity);
-    let mut data = case.block(member)[..DATA].to_vec();
+    let mut data = case.data_of(member).to_vec();
     match random.below(2) {
         0 => random.fill(&mut data),
-        _ => data[random.below(DATA)] ^= random.between(1, 255) as u8,
+        _ => data[random.below(case.format().data)] ^= random.between(1, 255) as u8,
     }
     let block = case.stripe * case.array.data_members() as u64 + index as u64;
     if let Ok(updated) = stripe::update(&case.array, block, &data, &case.bytes) {
-        let written = stripe::span(random.pick(&[member, parity]));
+        let written = case.format().span(random.pick(&[member, parity]));
         case.bytes[written.clone()].copy_from_slice(&updated[written]);
     }
 }
@@ -484,14 +571,14 @@ fn parity_guard(case: &mut Case, _: usize, random: &mut Random) {
 
 /// The parity's guard as that of its own data.
 fn parity_guard_own(case: &mut Case, _: usize, _: &mut Random) {
-    let (array, parity) = (case.array, case.array.parity_member(case.stripe));
-    let guard = guard_of(&array, &case.block(parity)[..DATA]);
+    let parity = case.array.parity_member(case.stripe);
+    let guard = guard_of(&case.array, case.data_of(parity));
     case.put_guard(parity, guard);
 }
 
 /// A word of zeros made ones, which no checksum notices, or any other made zeros.
 fn turned_word(case: &mut Case, member: usize, random: &mut Random) {
-    let place = 2 * random.below(DATA / 2);
+    let place = 2 * random.below(case.format().data / 2);
     let word = &mut case.block(member)[place..place + 2];
     let zeros = word == [0; 2];
     word.fill(if zeros { 0xFF } else { 0x00 });
@@ -499,38 +586,46 @@ fn turned_word(case: &mut Case, member: usize, random: &mut Random) {
 
 /// Reference, application and guard in the wrong order.
 fn fields_reversed(case: &mut Case, member: usize, _: &mut Random) {
-    let tag = case.block(member)[DATA..].to_vec();
-    let reversed = [&tag[4..8], &tag[2..4], &tag[0..2]].concat();
-    case.block(member)[DATA..].copy_from_slice(&reversed);
+    let format = case.format();
+    let tag = &mut case.block(member)[format.data..];
+    let [guard, application, reference] = format.fields(tag);
+    let reversed = [reference, application, guard].concat();
+    tag.copy_from_slice(&reversed);
 }
 
-fn guard_from_ones(case: &mut Case, member: usize, _: &mut Random) {
-    let block = case.block(member);
-    let guard = guard::go_on(0xFFFF, &block[..DATA]);
-    block[GUARD].copy_from_slice(&guard.to_be_bytes());
+/// A guard of the data whose register starts where another's does, or whose end step is left out.
+fn guard_from_elsewhere(case: &mut Case, member: usize, random: &mut Random) {
+    let data = case.data_of(member);
+    let guard = match (case.array.method, random.below(2)) {
+        (3, 0) => !crc32c::go_on(0, data),
+        (3, _) => crc32c::go_on(crc32c::START, data),
+        _ => guard::go_on(0xFFFF, data).into(),
+    };
+    case.put_guard(member, guard);
 }
 
-fn guard_of_other_method(case: &mut Case, member: usize, _: &mut Random) {
-    let method = 3 - case.array.method;
+fn guard_of_other_method(case: &mut Case, member: usize, random: &mut Random) {
+    let turns = random.between(1, METHODS.len() as u64 - 1) as u8;
     let other = Array {
-        method,
+        method: (case.array.method - 1 + turns) % METHODS.len() as u8 + 1,
         ..case.array
     };
-    let guard = guard_of(&other, &case.block(member)[..DATA]);
+    let guard = guard_of(&other, case.data_of(member));
     case.put_guard(member, guard);
 }
 
 /// The parity's tag as the exclusive-or of the other tags.
 fn parity_tag_combined(case: &mut Case, _: usize, _: &mut Random) {
     let row = case.array.row(case.stripe);
-    let mut tag = [0; 8];
+    let format = case.format();
+    let mut tag = vec![0; format.tag()];
     for member in (0..row.len()).filter(|member| matches!(row[*member], Owner::Data { .. })) {
-        for (sum, byte) in tag.iter_mut().zip(&case.block(member)[DATA..]) {
+        for (sum, byte) in tag.iter_mut().zip(&case.block(member)[format.data..]) {
             *sum ^= byte;
         }
     }
     let parity = case.array.parity_member(case.stripe);
-    case.block(parity)[DATA..].copy_from_slice(&tag);
+    case.block(parity)[format.data..].copy_from_slice(&tag);
 }
 
 fn blank(case: &mut Case, member: usize, random: &mut Random) {

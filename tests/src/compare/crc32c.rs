@@ -5,7 +5,7 @@ use super::{Outcome, Tally, known, refusal, tally};
 use crate::lent::Lent;
 use crate::library::{self, Quick};
 use crate::random::Random;
-use model::crc32c::{self, BLOCK, crc32c};
+use model::crc32c::{self, BLOCK, START, crc32c, go_on};
 
 const LONGEST: usize = 5_000;
 const SHORT: usize = 64;
@@ -48,10 +48,10 @@ fn published(count: &mut u64) -> Outcome<()> {
     Ok(())
 }
 
-/// What holds of the model besides is `published`.
+/// By the table of single bytes, which the slower division has to agree with.
 const CRC: Kind<u32> = Kind {
-    model: crc32c,
-    sound: |_, _| true,
+    model: |bytes| !go_on(START, bytes),
+    sound: |bytes, model| *model == crc32c(bytes),
     lent: library::crc32c,
     in_place: library::crc32c_at,
 };
@@ -92,7 +92,8 @@ fn changed_bits(random: &mut Random, count: &mut u64) -> Outcome<()> {
     Ok(())
 }
 
-fn quick_scrub(guards: &[u32], tally: &mut Tally) -> Outcome<()> {
+/// The quick scrub of guards of thirty-two bits; whether they differ.
+pub fn quick_scrub(guards: &[u32], tally: &mut Tally) -> Outcome<bool> {
     let answer = crc32c::quick_scrub(guards);
     let differs = answer.unwrap_or(None);
     let numbers = Quick {
@@ -110,7 +111,7 @@ fn quick_scrub(guards: &[u32], tally: &mut Tally) -> Outcome<()> {
         Err(number) => tally::refused(number),
     };
     tally.add(if guards.len() % 2 == 0 { "even" } else { "odd" }, name);
-    Ok(())
+    Ok(differs.is_some())
 }
 
 /// Some guards as they come, then with the first changed so that they combine to zero, and to the guard of a block of zeros.

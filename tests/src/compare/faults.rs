@@ -4,10 +4,11 @@ use super::cases::{self, Case};
 use super::{Outcome, Tally, all_named, known, standing, tag};
 use crate::random::Random;
 use model::layout::{Array, Owner};
-use model::stripe::{self, Checked, DATA, Field, Fields, Fits, Verdict, guard_of, is_combined};
+use model::stripe::{self, Checked, Field, Fields, Fits, Verdict, guard_of, is_combined};
+use std::ops::Range;
 
-/// How often the cases are tried for each number of members.
-const TIMES: usize = 20;
+/// How often the cases are tried for each method and number of members.
+const TIMES: usize = 7;
 
 const GUARD: Fits = Fits {
     guard: false,
@@ -24,29 +25,37 @@ const REFERENCE: Fits = Fits {
 
 /// The block of a member: what stands in its fields, and what is due there. A guard that nobody checks is expected as found.
 fn fields(case: &Case, member: usize) -> Fields {
-    let block = &case.bytes[stripe::span(member)];
+    let block = &case.bytes[case.format().span(member)];
     let (kind, number) = match case.array.row(case.stripe)[member] {
         Owner::Parity { lowest } => (0x8000, lowest),
         Owner::Data { block } => (0x0000, block),
     };
     let word = |at: usize| u64::from(u16::from_be_bytes([block[at], block[at + 1]]));
-    let own = u64::from(guard_of(&case.array, &block[..DATA]));
+    let two = |at: usize| word(at) << 16 | word(at + 2);
+    let application = kind + u64::from(case.array.volume);
+    let found = match case.array.method {
+        3 => [two(4_096), two(4_100), two(4_104) << 32 | two(4_108)],
+        _ => [word(512), word(514), two(516)],
+    };
+    let expected = [
+        match is_combined(&case.array, case.stripe, member) {
+            true => found[0],
+            false => u64::from(guard_of(&case.array, case.data_of(member))),
+        },
+        match case.array.method {
+            3 => application << 16,
+            _ => application,
+        },
+        number,
+    ];
+    let field = |at: usize| Field {
+        found: found[at],
+        expected: expected[at],
+    };
     Fields {
-        guard: Field {
-            found: word(512),
-            expected: match is_combined(&case.array, case.stripe, member) {
-                true => word(512),
-                false => own,
-            },
-        },
-        application: Field {
-            found: word(514),
-            expected: kind + u64::from(case.array.volume),
-        },
-        reference: Field {
-            found: word(516) << 16 | word(518),
-            expected: number,
-        },
+        guard: field(0),
+        application: field(1),
+        reference: field(2),
     }
 }
 
@@ -59,7 +68,7 @@ fn told(case: &Case, member: usize, fits: Fits) -> Outcome<()> {
     } else {
         Checked::Bad(fields)
     };
-    let block = &case.bytes[stripe::span(member)];
+    let block = &case.bytes[case.format().span(member)];
     known(
         Ok(due),
         tag::checked(&case.array, case.stripe, member, block)?,
@@ -115,17 +124,23 @@ impl<'a> Faults<'a> {
         (0..self.sealed.array.members).try_for_each(|member| told(&self.sealed, member, Fits::ALL))
     }
 
-    /// Data changed within sixteen successive bits, or by method 2 within an aligned word, zeros not turned into ones nor back: the guard as stored
-    /// is found, that of the new data expected. Of the parity of method 2 only the whole stripe tells.
+    /// Data changed within as many successive bits as a CRC has, or by method 2 within an aligned word, zeros not turned into ones nor back: the guard as
+    /// stored is found, that of the new data expected. Of the parity of method 2 only the whole stripe tells. By method 3 the lowest bit of a byte is its
+    /// first, else the highest.
     fn changed_data(&mut self, member: usize, random: &mut Random) -> Outcome<()> {
         let mut case = self.sealed.clone();
+        let end = 8 * case.format().data;
         let (from, bits) = match case.array.method {
-            1 => (random.below(8 * DATA - 15), random.between(1, 65_535)),
-            _ => (16 * random.below(DATA / 2), random.between(1, 65_534)),
+            1 => (random.below(end - 15), random.between(1, 0xFFFF)),
+            2 => (16 * random.below(end / 16), random.between(1, 0xFFFE)),
+            _ => (random.below(end - 31), random.between(1, 0xFFFF_FFFF)),
         };
-        for place in (0..16).filter(|place| bits >> place & 1 == 1) {
+        for place in (0..32).filter(|place| bits >> place & 1 == 1) {
             let bit = from + place;
-            case.block(member)[bit / 8] ^= 0x80 >> (bit % 8);
+            case.block(member)[bit / 8] ^= match case.array.method {
+                3 => 1 << (bit % 8),
+                _ => 0x80 >> (bit % 8),
+            };
         }
         let [before, after] = [&self.sealed, &case].map(|case| fields(case, member).guard);
         let combined = is_combined(&case.array, case.stripe, member);
@@ -154,7 +169,7 @@ impl<'a> Faults<'a> {
     fn of_other_stripe(&mut self, member: usize, random: &mut Random) -> Outcome<()> {
         let mut case = self.sealed.clone();
         let stripe = case.stripe + case.array.members as u64 * random.between(1, 3);
-        let data = random.bytes(DATA);
+        let data = random.bytes(case.format().data);
         let guard = guard_of(&case.array, &data);
         let block = stripe::tagged(&case.array, stripe, member, &data, guard);
         case.block(member).copy_from_slice(&block);
@@ -169,8 +184,7 @@ impl<'a> Faults<'a> {
             ..case.array
         };
         let guard = case.stored_guard(member);
-        let data = case.block(member)[..DATA].to_vec();
-        let block = stripe::tagged(&other, case.stripe, member, &data, guard);
+        let block = stripe::tagged(&other, case.stripe, member, case.data_of(member), guard);
         case.block(member).copy_from_slice(&block);
         self.just(&case, &[(member, APPLICATION)], random)
     }
@@ -187,7 +201,8 @@ impl<'a> Faults<'a> {
             reference: member == if parity == 0 { 1 } else { 0 },
             ..APPLICATION
         };
-        let guard = guard_of(&case.array, &blocks[1][..DATA]) == self.sealed.stored_guard(parity);
+        let own = guard_of(&case.array, self.sealed.data_of(parity));
+        let guard = own == self.sealed.stored_guard(parity);
         known(true, guard || case.array.method == 2)?;
         self.just(
             &case,
@@ -228,7 +243,7 @@ impl<'a> Faults<'a> {
         case.mark(low, random);
         case.spoil_fields(high, fits, random);
         told(&case, high, fits)?;
-        let block = &case.bytes[stripe::span(low)];
+        let block = &case.bytes[case.format().span(low)];
         let said = tag::checked(&case.array, case.stripe, low, block)?;
         known(Ok(Checked::Unchecked), said)?;
         self.lowest(&case, &[(high, fits)], random)
@@ -238,12 +253,30 @@ impl<'a> Faults<'a> {
     fn in_torn(&mut self, random: &mut Random) -> Outcome<()> {
         let mut case = self.sealed.clone();
         let fits = case.any_wrong(self.one, random);
-        case.tear(self.other, random.below(DATA), random);
+        let place = cases::any_place(&case.format(), random);
+        case.tear(self.other, place, random);
         case.spoil_fields(self.one, fits, random);
         self.just(&case, &[(self.one, fits)], random)
     }
 
-    /// Every member wiped with zeros, whose guard is right by method 1, and by method 2 nowhere but in the parity, where nobody checks it.
+    /// Each byte of these places changed by itself, so that just this field is wrong; none of them makes a mark.
+    fn each_byte(
+        &mut self,
+        member: usize,
+        places: Range<usize>,
+        fits: Fits,
+        random: &mut Random,
+    ) -> Outcome<()> {
+        for place in places {
+            let mut case = self.sealed.clone();
+            case.spoil(member, place, random);
+            self.just(&case, &[(member, fits)], random)?;
+        }
+        Ok(())
+    }
+
+    /// Every member wiped with zeros, whose guard is right by method 1, by method 2 nowhere but in the parity, where nobody checks it, and by method 3
+    /// nowhere.
     fn wiped(&mut self, random: &mut Random) -> Outcome<()> {
         let mut case = self.sealed.clone();
         case.bytes.fill(0);
@@ -251,23 +284,27 @@ impl<'a> Faults<'a> {
             .map(|member| (member, fields(&case, member).fits()))
             .filter(|(_, fits)| *fits != Fits::ALL)
             .collect();
-        let (method, parity) = (case.array.method, self.parity);
-        let right =
-            |(member, fits): &(usize, Fits)| fits.guard == (method == 1 || *member == parity);
-        known(true, bad.iter().all(right))?;
+        let right = |member: usize| match case.array.method {
+            1 => true,
+            2 => member == self.parity,
+            _ => false,
+        };
+        let as_due = |(member, fits): &(usize, Fits)| fits.guard == right(*member);
+        known(true, bad.iter().all(as_due))?;
         self.just(&case, &bad, random)
     }
 }
 
 /// The cases, each by its name; and how many they are.
 #[rustfmt::skip]
-fn cases_of(members: usize, random: &mut Random, tally: &mut Tally) -> Outcome<usize> {
-    let mut on = Faults::on(standing::sealed(members, random), random, tally);
+fn cases_of(method: u8, members: usize, random: &mut Random, tally: &mut Tally) -> Outcome<usize> {
+    let mut on = Faults::on(standing::sealed(method, members, random), random, tally);
     let Faults { one, other, parity, .. } = on;
+    let format = on.sealed.format();
     let tried = [
         ("all good", on.all_good()),
-        ("data changed within sixteen bits or a word", on.changed_data(one, random)),
-        ("parity changed within sixteen bits or a word", on.changed_data(parity, random)),
+        ("data changed within a guard's bits or a word", on.changed_data(one, random)),
+        ("parity changed within a guard's bits or a word", on.changed_data(parity, random)),
         ("data on another member", on.on_other_member(random)),
         ("data of another stripe", on.of_other_stripe(one, random)),
         ("parity of another stripe", on.of_other_stripe(parity, random)),
@@ -281,6 +318,10 @@ fn cases_of(members: usize, random: &mut Random, tally: &mut Tally) -> Outcome<u
         ("unchecked below bad", on.below_unchecked(random)),
         ("bad in a torn stripe", on.in_torn(random)),
         ("wiped with zeros", on.wiped(random)),
+        ("each byte of the application field in data", on.each_byte(one, format.application(), APPLICATION, random)),
+        ("each byte of the application field in parity", on.each_byte(parity, format.application(), APPLICATION, random)),
+        ("each byte of the reference in data", on.each_byte(one, format.reference(), REFERENCE, random)),
+        ("each byte of the reference in parity", on.each_byte(parity, format.reference(), REFERENCE, random)),
     ];
     all_named(members, &tried)
 }
@@ -288,9 +329,10 @@ fn cases_of(members: usize, random: &mut Random, tally: &mut Tally) -> Outcome<u
 pub fn compare(random: &mut Random) -> Outcome<String> {
     let mut tally = Tally::default();
     let mut tried = 0;
-    for members in 3..=16 {
-        for _ in 0..TIMES {
-            tried = cases_of(members, random, &mut tally)?;
+    for method in cases::METHODS {
+        for members in (3..=16).flat_map(|members| [members; TIMES]) {
+            tried = cases_of(method, members, random, &mut tally)
+                .map_err(|difference| format!("method {method}: {difference}"))?;
         }
     }
     let calls = [
@@ -298,7 +340,7 @@ pub fn compare(random: &mut Random) -> Outcome<String> {
         tally.of_each("finish", "G-- -A- --R GA- G-R -AR GAR")?,
     ];
     Ok(format!(
-        "known beforehand by both methods in {tried} named cases, all fields of every block: {}",
+        "known beforehand by all methods in {tried} named cases, all fields of every block: {}",
         calls.join(", ")
     ))
 }

@@ -5,9 +5,10 @@ use super::standing::{self, Standing};
 use super::{Outcome, Tally, VERDICTS, faults_name, tally};
 use crate::program::{self, Input};
 use crate::random::Random;
+use model::format::Format;
 use model::layout::Array;
 use model::report;
-use model::stripe::{self, APPLICATION, BLOCK, DATA, Fits, Verdict};
+use model::stripe::{self, Fits, Verdict};
 use std::thread;
 use std::time::Duration;
 
@@ -16,14 +17,20 @@ const MEMBERS: [usize; 3] = [3, 5, 16];
 /// How many images have a random header, and how many random stripes.
 const HEADERS: usize = 800;
 const IMAGES: usize = 450;
+/// How many stripes an image of torn ones has.
+const TORN: usize = 512;
 
 /// Places in a block: the ends of the data, and each byte of the tag.
-#[rustfmt::skip]
-const PLACES: [usize; 11] = [0, 1, DATA - 1, DATA, 513, 514, 515, 516, 517, 518, BLOCK - 1];
+fn places(format: &Format) -> Vec<usize> {
+    [0, 1]
+        .into_iter()
+        .chain(format.data - 1..format.block())
+        .collect()
+}
 
 /// Headers and the numbers of their refusals: where several numbers fit, 10 goes first, then 1, then 2.
 #[rustfmt::skip]
-const REFUSED: [(u32, &[u8]); 49] = [
+const REFUSED: [(u32, &[u8]); 52] = [
     (10, &[0, 6, 1, 3, 7, 0, 0, 0, 1]),
     (10, &[0, 8, 1, 3, 7, 0, 0, 0, 1]),
     (10, &[1, 7, 1, 3, 7, 0, 0, 0, 1]),
@@ -57,6 +64,7 @@ const REFUSED: [(u32, &[u8]); 49] = [
     (1, &[0, 8, 2, 2, 7, 0, 0, 0, 1, 1]),
     (1, &[0, 8, 2, 17, 7, 0, 0, 0, 1, 2]),
     (1, &[0, 8, 2, 2, 7, 0, 0, 0, 1, 3]),
+    (1, &[0, 8, 2, 2, 7, 0, 0, 0, 1, 4]),
     (1, &[0, 8, 2, 17, 7, 0, 0, 0, 0, 0]),
     (2, &[0, 7, 1, 3, 7, 0, 0, 0, 0]),
     (2, &[0, 7, 1, 3, 7, 16, 0, 0, 1]),
@@ -65,12 +73,14 @@ const REFUSED: [(u32, &[u8]); 49] = [
     (2, &[0, 8, 2, 3, 7, 0, 0, 0, 0, 2]),
     (2, &[0, 8, 2, 3, 7, 16, 0, 0, 1, 1]),
     (2, &[0, 8, 2, 3, 7, 0, 0, 0, 0, 0]),
+    (2, &[0, 8, 2, 3, 7, 16, 0, 0, 1, 3]),
     (2, &[0, 8, 2, 16, 7, 16, 0, 0, 1, 255]),
     (12, &[0, 8, 2, 3, 7, 0, 0, 0, 1, 0]),
-    (12, &[0, 8, 2, 3, 7, 0, 0, 0, 1, 3]),
+    (12, &[0, 8, 2, 3, 7, 0, 0, 0, 1, 4]),
     (12, &[0, 8, 2, 5, 7, 0, 0, 0, 6, 4]),
     (12, &[0, 8, 2, 16, 7, 16, 0, 0, 0, 129]),
     (12, &[0, 8, 2, 16, 7, 0, 0, 0, 1, 130]),
+    (12, &[0, 8, 2, 16, 7, 0, 0, 0, 1, 131]),
     (12, &[0, 8, 2, 3, 0, 0, 0, 0, 1, 254]),
     (12, &[0, 8, 2, 3, 255, 0, 0, 0, 1, 255]),
 ];
@@ -87,8 +97,8 @@ fn any_version(array: &Array, random: &mut Random) -> Vec<u8> {
 /// Writes an image in pieces that are random and small. Now and then it waits, so that the program reads less than it has room for.
 fn in_pieces(image: &[u8], input: &mut Input, random: &mut Random) -> Outcome<()> {
     let longest = match image.len() {
-        0..8_192 => random.pick(&[1, 7, BLOCK + 1, 4_096]),
-        _ => random.pick(&[BLOCK + 1, 4_096, 70_000]),
+        0..8_192 => random.pick(&[1, 7, 521, 4_096]),
+        _ => random.pick(&[521, 4_096, 4_113, 70_000]),
     };
     let mut rest = image;
     while !rest.is_empty() {
@@ -113,8 +123,17 @@ fn letters_name(letters: &str) -> &'static str {
         .expect("the model's own letters")
 }
 
-/// What a line says, for the tally.
-fn line_name(line: &str) -> &'static str {
+/// The method that an image's header names, 0 where it names none.
+fn method_of(image: &[u8]) -> u8 {
+    match image {
+        [_, _, 1, ..] => 1,
+        [_, _, 2, _, _, _, _, _, _, method, ..] => *method,
+        _ => 0,
+    }
+}
+
+/// What a line on an image of a method says, for the tally.
+fn line_name(method: u8, line: &str) -> &'static str {
     match line.split(' ').collect::<Vec<_>>()[..] {
         ["SCRUB", ..] => "scrub",
         ["TOTAL", ..] => "total",
@@ -122,7 +141,7 @@ fn line_name(line: &str) -> &'static str {
         [_, "CLEAN"] => "clean",
         [_, "BAD", _, _, letters] => letters_name(letters),
         [_, "UNCHECKED", ..] => "unchecked",
-        [_, "TORN", "512"] => "512",
+        [_, "TORN", "512"] if method == 2 => "512",
         [_, "TORN", _] => "torn",
         _ => panic!("the model wrote the line {line}"),
     }
@@ -165,8 +184,10 @@ impl Compared {
                 format!("{what}, {length} bytes, header {header:02X?}: {difference}")
             })?;
         self.images += 1;
+        let method = method_of(image);
         for line in due.lines() {
-            self.lines.add("lines", line_name(line));
+            let name = line_name(method, line);
+            self.lines.add_by(method, "lines", name);
         }
         Ok(())
     }
@@ -225,23 +246,28 @@ fn any_verdict(case: &mut Case, random: &mut Random) -> Verdict {
         1 => set_apart(case, Standing::Bad, set, random),
         2 => set_apart(case, Standing::Unchecked, set, random),
         3 => stand(case, random.below(standing::ways(members)), random),
-        _ => case.tear(random.below(members), random.below(DATA), random),
+        _ => {
+            let place = cases::any_place(&case.format(), random);
+            case.tear(random.below(members), place, random)
+        }
     }
 }
 
 /// One byte of the stripe changed, another in each: its member is bad, or, where nobody checks the guard that it belongs to, the stripe is torn.
 fn one_byte(case: &mut Case, random: &mut Random) -> Verdict {
-    let number = case.stripe as usize;
-    let (member, place) = (number / PLACES.len(), PLACES[number % PLACES.len()]);
+    let format = case.format();
+    let (number, places) = (case.stripe as usize, places(&format));
+    let (member, place) = (number / places.len(), places[number % places.len()]);
     case.spoil(member, place, random);
-    if stripe::is_combined(&case.array, case.stripe, member) && place < APPLICATION.start {
-        let place = place.min(DATA);
+    let guarded = 0..format.guard().end;
+    if stripe::is_combined(&case.array, case.stripe, member) && guarded.contains(&place) {
+        let place = place.min(format.data);
         return Verdict::Torn { place };
     }
     let fits = Fits {
-        guard: place >= APPLICATION.start,
-        application: !APPLICATION.contains(&place),
-        reference: place < APPLICATION.end,
+        guard: !guarded.contains(&place),
+        application: !format.application().contains(&place),
+        reference: !format.reference().contains(&place),
     };
     Verdict::Bad {
         member,
@@ -271,7 +297,8 @@ fn verdicts(
 ) -> Outcome<()> {
     let of = |stripes| (members, method, stripes);
     compared.known("clean", of(40), random, |_, _| Verdict::Clean)?;
-    let bytes = members * PLACES.len();
+    let format = Format::of(method);
+    let bytes = members * places(&format).len();
     compared.known("one bad byte", of(bytes), random, one_byte)?;
     compared.known("each set of faults", of(7 * members), random, one_set)?;
     if members <= 5 {
@@ -295,9 +322,10 @@ fn verdicts(
     compared.known("one unchecked", of(members), random, |case, random| {
         set_apart(case, Standing::Unchecked, 1 << case.stripe, random)
     })?;
-    compared.known("torn", of(DATA), random, |case, random| {
-        let member = random.below(members);
-        case.tear(member, case.stripe as usize, random)
+    let step = format.data / TORN;
+    compared.known("torn", of(TORN), random, |case, random| {
+        let turn = case.stripe as usize;
+        case.tear(random.below(members), step * turn + turn % step, random)
     })?;
     if method == 2 {
         compared.known("torn by guards", of(40), random, |case, random| {
@@ -329,7 +357,7 @@ fn ends(
         volume: random.next() as u8,
         method,
     };
-    let length = members * BLOCK;
+    let length = array.stripe_length();
     let mut image = report::header_of(version, &array);
     let header = image.len();
     for stripe in 0..array.stripes {
@@ -340,7 +368,11 @@ fn ends(
     }
     for stripe in [0, 1, 2] {
         let begin = header + stripe * length;
-        for more in [1, DATA - 1, DATA, BLOCK - 1, BLOCK, BLOCK + 1, length - 1] {
+        let block = array.format().block();
+        for more in (0..=array.format().tag())
+            .map(|from_end| block - from_end)
+            .chain([1, block + 1, length - 1])
+        {
             compared.compare("cut in a stripe", &image[..begin + more], random)?;
         }
         let cut = begin + 1 + random.below(length - 1);
@@ -351,7 +383,7 @@ fn ends(
         compared.compare("cut at a stripe's end", &image[..cut], random)?;
     }
     compared.compare("whole", &image, random)?;
-    for more in [1, 2, BLOCK, length, 3 * length] {
+    for more in [1, 2, array.format().block(), length, 3 * length] {
         let longer = [&image[..], &random.bytes(more)].concat();
         compared.compare("too long", &longer, random)?;
     }
@@ -362,7 +394,7 @@ fn ends(
 fn refused_headers(compared: &mut Compared, random: &mut Random) -> Outcome<()> {
     for (number, header) in REFUSED {
         let due = format!("REFUSED {number}\n");
-        for length in [0, 1, 3 * BLOCK] {
+        for length in [0, 1, 3 * 520, 3 * 4_112] {
             let image = [&header[..], &random.bytes(length)].concat();
             same_report(&due, &report::report(&image))
                 .map_err(|difference| format!("the model at {header:02X?}: {difference}"))?;
@@ -372,7 +404,7 @@ fn refused_headers(compared: &mut Compared, random: &mut Random) -> Outcome<()> 
     Ok(())
 }
 
-/// Every version with the length of each that there is, and every method, before a stripe sealed by method 1 or 2. What is due is known.
+/// Every version with the length of each that there is, and every method, before a stripe sealed by one of the methods. What is due is known.
 fn every_number(compared: &mut Compared, random: &mut Random) -> Outcome<()> {
     let array = Array {
         stripes: 1,
@@ -392,7 +424,7 @@ fn every_number(compared: &mut Compared, random: &mut Random) -> Outcome<()> {
                 refused,
             )
         });
-        let refused = (![1, 2].contains(&number)).then_some(12);
+        let refused = (!cases::METHODS.contains(&number)).then_some(12);
         let method = (
             [0, 8, 2, members, array.volume, 0, 0, 0, 1, number],
             refused,
@@ -472,7 +504,7 @@ pub fn compare(random: &mut Random) -> Outcome<String> {
         for method in cases::METHODS {
             verdicts(members, method, &mut compared, random)?;
         }
-        for said in [(1, 1), (2, 1), (2, 2)] {
+        for said in [(1, 1), (2, 1), (2, 2), (2, 3)] {
             ends(members, said, &mut compared, random)?;
         }
     }
@@ -482,11 +514,12 @@ pub fn compare(random: &mut Random) -> Outcome<String> {
     for _ in 0..IMAGES {
         any_stripes(&mut compared, random)?;
     }
+    compared.lines.of("lines", "512 1 2 10 12")?;
     Ok(format!(
         "{} of both versions alike, through a pipe in small writes: {}",
         compared.images,
         compared
             .lines
-            .of("lines", &format!("{VERDICTS} 512 total 1 2 10 11 12"))?
+            .of_each("lines", &format!("{VERDICTS} total 11"))?
     ))
 }

@@ -6,7 +6,8 @@ use crate::library;
 use crate::random::Random;
 use model::guard::guard;
 use model::layout::{Array, Owner, Place};
-use model::stripe::{APPLICATION, BLOCK, Checked, DATA, Fits, UNCHECKED};
+use model::stripe::{Checked, Fits, UNCHECKED};
+use std::ops::Range;
 
 /// One block a line: its number, its data and its tag. The README beside the file tells where they come from.
 const BLOCKS: &str = include_str!("../../vectors/t10-pi.txt");
@@ -14,6 +15,11 @@ const BLOCKS: &str = include_str!("../../vectors/t10-pi.txt");
 /// The kernel leaves the application tag at zero, as data of volume 0 have it.
 const VOLUME: u8 = 0;
 const STRIPES: u64 = 268_435_456;
+
+/// The lengths of a sector and of a block, which is the sector and its tag, and where the application tag stands.
+const DATA: usize = 512;
+const BLOCK: usize = 520;
+const APPLICATION: Range<usize> = 514..516;
 
 /// What was seen.
 #[derive(Default)]
@@ -70,7 +76,7 @@ fn due(array: &Array, place: Place, bytes: &[u8], fits: Fits) -> Outcome<()> {
 }
 
 /// At every other place of the stripe, of its neighbours and of those a turn of the parity away, the kind or the number is wrong, or both;
-/// for every other volume just that is, and by the checksum just the guard.
+/// for every other volume just that is, and by the checksum just the guard. For method 3 it is too short.
 fn elsewhere(array: &Array, place: Place, bytes: &[u8], seen: &mut Seen) -> Outcome<()> {
     let turn = array.members as i64;
     let near = [-turn, -1, 0, 1, turn].map(|far| place.stripe.checked_add_signed(far));
@@ -110,7 +116,12 @@ fn elsewhere(array: &Array, place: Place, bytes: &[u8], seen: &mut Seen) -> Outc
     };
     due(&summed, place, bytes, fits)?;
     seen.elsewhere += 1;
-    Ok(())
+    let large = Array {
+        method: 3,
+        ..*array
+    };
+    let said = tag::checked(&large, place.stripe, place.member, bytes)?;
+    known(Err(6), said)
 }
 
 /// Each bit of the block changed by itself: just its field is wrong, or the guard if it is a bit of the data.

@@ -7,7 +7,6 @@ use crate::program::{self, Input};
 use crate::random::Random;
 use model::layout::Array;
 use model::report::{self, Report};
-use model::stripe::BLOCK;
 use std::env;
 use std::fs::{self, File};
 use std::io::{self, BufRead, BufReader, BufWriter, Write};
@@ -33,13 +32,13 @@ struct Stripes {
 impl Stripes {
     /// Stripes of three members, so that there are many; together at least so many bytes.
     fn of(length: usize, method: u8, random: &mut Random) -> Self {
-        let members = 3;
-        let array = Array {
-            members,
-            stripes: length.div_ceil(members * BLOCK) as u64,
+        let mut array = Array {
+            members: 3,
+            stripes: 1,
             volume: random.next() as u8,
             method,
         };
+        array.stripes = length.div_ceil(array.stripe_length()) as u64;
         Stripes {
             array,
             next: 0,
@@ -68,7 +67,8 @@ impl Iterator for Stripes {
         for side in sides {
             let place = edge + side - 1;
             if (begin..begin + length).contains(&place) {
-                let (member, place) = ((place - begin) / BLOCK, (place - begin) % BLOCK);
+                let block = case.format().block();
+                let (member, place) = ((place - begin) / block, (place - begin) % block);
                 case.spoil(member, place, random);
                 match random.below(4) {
                     0 | 1 => case.tag_again(member),
@@ -146,12 +146,8 @@ fn judge(output: ChildStdout, due: Receiver<String>) -> Outcome<String> {
 
 fn piped(method: u8, random: &mut Random) -> Outcome<String> {
     let stripes = Stripes::of(PIPED, method, random);
-    let Array {
-        members,
-        stripes: number,
-        ..
-    } = stripes.array;
-    let length = report::header(&stripes.array).len() + number as usize * members * BLOCK;
+    let array = stripes.array;
+    let length = report::header(&array).len() + array.stripes as usize * array.stripe_length();
     let (sender, receiver) = mpsc::channel();
     let (Peaks { early, late }, total) = program::piped(
         |input| feed(stripes, sender, input, random),
@@ -199,9 +195,9 @@ fn filed(method: u8, random: &mut Random) -> Outcome<String> {
 }
 
 pub fn compare(random: &mut Random) -> Outcome<String> {
-    let both = METHODS.map(|method| -> Outcome<String> {
+    let each = METHODS.map(|method| -> Outcome<String> {
         let (piped, filed) = (piped(method, random)?, filed(method, random)?);
         Ok(format!("method {method}: {piped}; {filed}"))
     });
-    Ok(both.into_iter().collect::<Outcome<Vec<_>>>()?.join("; "))
+    Ok(each.into_iter().collect::<Outcome<Vec<_>>>()?.join("; "))
 }

@@ -21,7 +21,7 @@ pub mod write_hole;
 
 use crate::library;
 use model::Answer;
-use model::stripe::{DATA, Fits, Verdict};
+use model::stripe::{Fits, Verdict};
 use std::fmt::Debug;
 use tally::Tally;
 
@@ -82,7 +82,7 @@ fn verdict_numbers(answer: &Answer<Verdict>) -> library::Verdict {
     }
 }
 
-/// Every verdict of both methods by its name, a bad one for each set of faults. Method 2 has one more, by the name of 512: torn by its guards alone.
+/// Every verdict of all methods by its name, a bad one for each set of faults. Method 2 has one more, by the name of 512: torn by its guards alone.
 const VERDICTS: &str = "clean G-- -A- --R GA- G-R -AR GAR unchecked torn";
 
 /// The wrong fields by their letters, for the tally.
@@ -99,12 +99,12 @@ fn faults_name(fits: Fits) -> &'static str {
     }
 }
 
-/// The name of a verdict, for the tally.
-fn verdict_name(answer: &Answer<Verdict>) -> &'static str {
+/// The name of a verdict by a method, for the tally.
+fn verdict_name(method: u8, answer: &Answer<Verdict>) -> &'static str {
     match answer {
         Ok(Verdict::Clean) => "clean",
         Ok(Verdict::Bad { fits, .. }) => faults_name(*fits),
-        Ok(Verdict::Torn { place: DATA }) => "512",
+        Ok(Verdict::Torn { place: 512 }) if method == 2 => "512",
         Ok(Verdict::Torn { .. }) => "torn",
         Ok(Verdict::Unchecked { .. }) => "unchecked",
         Err(number) => tally::refused(*number),

@@ -7,16 +7,18 @@ use super::{
 use crate::lent::{Lent, between_margins};
 use crate::library::{self, Taken};
 use crate::random::Random;
+use model::format::Format;
 use model::layout::Array;
 use model::scan::{self, History, Scan};
-use model::stripe::{self, BLOCK, DATA, UNCHECKED};
+use model::stripe::{self, UNCHECKED};
+use std::cmp::Ordering;
 
 const LISTS: usize = 50_000;
 const STATES: usize = 100_000;
-/// How many stripes come in pieces of odd lengths alone.
-const ODD: usize = 1_500;
-/// No cut is longer.
-const LONGEST: usize = 600;
+/// How many stripes come in pieces of odd lengths alone, by each method.
+const ODD: usize = 1_000;
+/// No cut is longer than a block and so many bytes.
+const OVER: usize = 80;
 
 fn start(array: &Array, stripe: u64, work: &mut Lent<u8>, tally: &mut Tally) -> Outcome<Taken> {
     let before = work.contents().to_vec();
@@ -76,7 +78,8 @@ fn finish(state: Scan, work: &Lent<u8>, tally: &mut Tally) -> Outcome<library::V
     same(verdict_numbers(&answer), verdict)
         .and_then(|()| work.holds("work", &before))
         .map_err(|difference| format!("finish at {state:?}: {difference}"))?;
-    tally.add_by(state.method, "finish", verdict_name(&answer));
+    let name = verdict_name(state.method, &answer);
+    tally.add_by(state.method, "finish", name);
     Ok(verdict)
 }
 
@@ -101,24 +104,37 @@ impl List {
 
     fn over(case: &Case, random: &mut Random, tally: &mut Tally) -> Outcome<Self> {
         let Case { array, stripe, .. } = *case;
-        let mut work = Lent::new(&random.bytes(DATA));
+        let format = case.format();
+        let mut work = Lent::new(&random.bytes(format.data));
         Ok(List {
             array,
             blocks: case.bytes.clone(),
-            longest: longest_cut(random),
+            longest: longest_cut(&format, random),
             state: start(&array, stripe, &mut work, tally)?.state,
             work,
             history: History::open(array, stripe),
         })
     }
 
+    /// A member that still lacks some.
+    fn lacking(&self) -> Option<usize> {
+        let whole = self.array.format().block();
+        (0..self.array.members).find(|member| self.history.position(*member) < whole)
+    }
+
     fn is_whole(&self) -> bool {
-        (0..self.array.members).all(|member| self.history.position(member) == BLOCK)
+        self.lacking().is_none()
+    }
+
+    /// What a member still lacks.
+    fn rest(&self, member: usize) -> &[u8] {
+        let span = self.array.format().span(member);
+        &self.blocks[span][self.history.position(member)..]
     }
 
     /// What is next of a member, cut anywhere; now and then more than it lacks.
     fn cut(&self, member: usize, random: &mut Random) -> Vec<u8> {
-        let rest = &self.blocks[stripe::span(member)][self.history.position(member)..];
+        let rest = self.rest(member);
         let length = random.below(self.longest + 1);
         if length <= rest.len() {
             return rest[..length].to_vec();
@@ -156,9 +172,8 @@ impl List {
             let past = [0, 1, 16, 256, 1 << 32].map(|far| self.array.members + far);
             return self.piece(random.pick(&past), &random.bytes(3), tally);
         }
-        if self.history.position(member) == BLOCK && !random.one_in(3) {
-            let lacks = |member: &usize| self.history.position(*member) < BLOCK;
-            member = (0..self.array.members).find(lacks).unwrap_or(member);
+        if self.rest(member).is_empty() && !random.one_in(3) {
+            member = self.lacking().unwrap_or(member);
         }
         let bytes = self.cut(member, random);
         self.piece(member, &bytes, tally)
@@ -198,13 +213,18 @@ fn cut_once(method: u8, cut: usize, random: &mut Random, tally: &mut Tally) -> O
     let mut list = begun(method, random, tally)?;
     let in_two = random.below(list.array.members);
     for member in 0..list.array.members {
-        let block = list.blocks[stripe::span(member)].to_vec();
-        let (first, second) = block.split_at(if member == in_two { cut } else { BLOCK });
+        let block = list.rest(member).to_vec();
+        if member != in_two {
+            list.piece(member, &block, tally)?;
+            continue;
+        }
+        let (first, second) = block.split_at(cut);
         for piece in [first, second] {
             list.piece(member, piece, tally)?;
             list.holds()?;
         }
     }
+    list.holds()?;
     list.finish(tally)?;
     Ok(())
 }
@@ -212,10 +232,11 @@ fn cut_once(method: u8, cut: usize, random: &mut Random, tally: &mut Tally) -> O
 /// All blocks in pieces of odd lengths, but for what is left at the end of one.
 fn oddly(method: u8, random: &mut Random, tally: &mut Tally) -> Outcome<()> {
     let mut list = begun(method, random, tally)?;
-    let longest = random.pick(&[2, 20, BLOCK]);
+    let block = list.array.format().block();
+    let longest = random.pick(&[block / 260, block / 26, block]);
     while !list.is_whole() {
         let member = random.below(list.array.members);
-        let rest = &list.blocks[stripe::span(member)][list.history.position(member)..];
+        let rest = list.rest(member);
         let length = 2 * random.below(longest / 2) + 1;
         let piece = rest[..length.min(rest.len())].to_vec();
         list.piece(member, &piece, tally)?;
@@ -242,18 +263,21 @@ fn waiting(
         false => random.between(array.members as u64, 15) as usize,
     };
     let stripe = cases::stripe_of(&array, random);
-    let (mut state, _) = scan::start(&array, stripe, &[0; DATA]).expect("a start that is fit");
-    state.at = [BLOCK as u16; 16];
+    let format = array.format();
+    let whole = format.block();
+    let clear = vec![0; format.data];
+    let (mut state, _) = scan::start(&array, stripe, &clear).expect("a start that is fit");
+    state.at = [whole as u16; 16];
     state.at[member] = at as u16;
     state.waiting[member] = byte;
-    let can_wait = method == 2 && at < DATA && at % 2 == 1;
-    let (piece_due, finish_due) = match (inside, at) {
+    let can_wait = method == 2 && at < format.data && at % 2 == 1;
+    let (piece_due, finish_due) = match (inside, at.cmp(&whole)) {
         (false, _) => (0, 0),
-        (true, BLOCK) if byte == 0 => (0, 0),
-        (true, ..BLOCK) if byte == 0 || can_wait => (0, 8),
+        (true, Ordering::Equal) if byte == 0 => (0, 0),
+        (true, Ordering::Less) if byte == 0 || can_wait => (0, 8),
         _ => (4, 4),
     };
-    let mut work = Lent::new(&random.bytes(DATA));
+    let mut work = Lent::new(&random.bytes(format.data));
     let of_model = [
         refusal(&scan::piece(&state, 0, &[], work.contents())),
         refusal(&scan::finish(&state, work.contents())),
@@ -268,7 +292,8 @@ fn waiting(
 fn named(random: &mut Random, tally: &mut Tally) -> Outcome<[usize; 3]> {
     let mut tried = [0; 3];
     for method in cases::METHODS {
-        for cut in 0..=BLOCK {
+        let block = Format::of(method).block();
+        for cut in 0..=block {
             cut_once(method, cut, random, tally)
                 .map_err(|difference| format!("method {method}, cut at {cut}: {difference}"))?;
             tried[0] += 1;
@@ -278,7 +303,7 @@ fn named(random: &mut Random, tally: &mut Tally) -> Outcome<[usize; 3]> {
                 .map_err(|difference| format!("method {method}, odd pieces: {difference}"))?;
             tried[1] += 1;
         }
-        for at in 0..=BLOCK + 2 {
+        for at in 0..=block + 2 {
             for (byte, inside) in [0x00, 0x01, 0x80, 0xFF]
                 .into_iter()
                 .flat_map(|byte| [(byte, true), (byte, false)])
@@ -294,12 +319,12 @@ fn named(random: &mut Random, tally: &mut Tally) -> Outcome<[usize; 3]> {
 }
 
 /// How long the cuts of a list are: mostly any, now and then short.
-fn longest_cut(random: &mut Random) -> usize {
+fn longest_cut(format: &Format, random: &mut Random) -> usize {
     match random.below(1_000) {
         0 => 1,
-        1..30 => 30,
-        30..200 => 200,
-        _ => LONGEST,
+        1..30 => format.data / 16,
+        30..200 => format.data / 4,
+        _ => format.block() + OVER,
     }
 }
 
@@ -311,9 +336,10 @@ fn list(random: &mut Random, tally: &mut Tally) -> Outcome<()> {
     } else {
         usize::MAX
     };
+    let seldom = list.array.format().data / 32;
     while left > 0 && !list.is_whole() {
         list.call(random, tally)?;
-        if random.one_in(16) {
+        if random.one_in(seldom) {
             list.holds()?;
         }
         left -= 1;
@@ -325,20 +351,24 @@ fn list(random: &mut Random, tally: &mut Tally) -> Outcome<()> {
     list.holds()
 }
 
-/// A position: mostly one that a scan reaches, and now and then one above.
-fn any_position(random: &mut Random) -> u16 {
-    match random.below(40) {
-        0 => random.pick(&[521, 522, 1_032, 32_768, 65_535]),
-        1..10 => random.pick(&[0, 511, 512, 513, 514, 516, 519]),
-        10..20 => random.below(BLOCK) as u16,
-        _ => BLOCK as u16,
-    }
+/// A position: mostly one that a scan reaches, and now and then one above, which blocks of the other format may have.
+fn any_position(format: &Format, random: &mut Random) -> u16 {
+    let block = format.block();
+    let position = match random.below(40) {
+        0 => random.pick(&[block + 1, block + 2, block + format.data, 32_768, 65_535]),
+        1..5 => random.pick(&[0, 511, 512, 513, 514, 516, 519, 520]),
+        5..10 => format.data - 1 + random.below(format.tag() + 1),
+        10..20 => random.below(block),
+        _ => block,
+    };
+    position as u16
 }
 
 /// A state that no start gives; its tags fit its registers, mostly, where that can be, and some are marked as not to be checked. Now and then a byte
-/// waits where none can.
+/// waits where none can, or a register has more than the sixteen bits of methods 1 and 2.
 fn any_state(random: &mut Random) -> Scan {
     let array = cases::any_array(random);
+    let format = array.format();
     let stripe = cases::any_stripe(&array, random);
     let mut state = Scan {
         members: array.members,
@@ -356,25 +386,27 @@ fn any_state(random: &mut Random) -> Scan {
     let astray = random.pick(&[20, 1_000, 1_000]);
     for member in 0..16 {
         state.at[member] = if whole {
-            BLOCK as u16
+            format.block() as u16
         } else {
-            any_position(random)
+            any_position(&format, random)
         };
         if member < array.members && !waits(&state, member) && !random.one_in(astray) {
             state.waiting[member] = 0;
         }
-        state.register[member] = random.next() as u16;
+        let guard = any_guard(&format, random);
+        state.register[member] = if array.method == 3 { !guard } else { guard };
+        if array.method != 3 && (member >= array.members || random.one_in(astray)) {
+            state.register[member] += random.pick(&[0, 0x1_0000, 0x8000_0000, 0xFFFF_0000]);
+        }
+        let tag = &mut state.tag[format.tag() * member..][..format.tag()];
         if array.place_fits(stripe, member).is_ok() && !random.one_in(wrong) {
-            let mut tag = stripe::due(&array, stripe, member, state.register[member]);
+            tag.copy_from_slice(&stripe::due(&array, stripe, member, guard));
             if random.one_in(wrong) {
-                for place in [0, 3, 7].into_iter().filter(|_| random.one_in(2)) {
-                    tag[place] ^= 1;
-                }
+                spoil_fields(&format, tag, random);
             }
-            state.tag[8 * member..][..8].copy_from_slice(&tag);
         }
         if random.one_in(marked) {
-            state.tag[8 * member + 2..][..2].copy_from_slice(&UNCHECKED);
+            tag[format.guard().len()..][..2].copy_from_slice(&UNCHECKED);
         }
     }
     if array.method == 2 && array.stripe_fits(stripe).is_ok() && random.one_in(2) {
@@ -383,13 +415,28 @@ fn any_state(random: &mut Random) -> Scan {
     state
 }
 
+/// Any number that a guard can be.
+fn any_guard(format: &Format, random: &mut Random) -> u32 {
+    let guard = random.next() as u32;
+    guard >> (32 - 8 * format.guard().len())
+}
+
+/// A bit changed in some fields of a tag.
+fn spoil_fields(format: &Format, tag: &mut [u8], random: &mut Random) {
+    for field in [format.guard(), format.application(), format.reference()] {
+        if random.one_in(2) {
+            tag[field.start - format.data + random.below(field.len())] ^= 1;
+        }
+    }
+}
+
 /// By method 2 a byte waits after an odd number of data bytes.
 fn waits(state: &Scan, member: usize) -> bool {
     let at = usize::from(state.at[member]);
-    state.method == 2 && at < DATA && at % 2 == 1
+    state.method == 2 && at < Format::of(2).data && at % 2 == 1
 }
 
-/// The parity's guard made what the others combine to.
+/// The parity's guard of method 2 made what the others combine to.
 fn combine_guards(array: &Array, state: &mut Scan) {
     let parity = 8 * array.parity_member(state.stripe);
     for place in 0..2 {
@@ -398,9 +445,9 @@ fn combine_guards(array: &Array, state: &mut Scan) {
     }
 }
 
-/// A work buffer with anything in it, now and then of a wrong length.
-fn any_work(random: &mut Random) -> Lent<u8> {
-    let length = cases::any_length(DATA, random);
+/// A work buffer for a method with anything in it, now and then of a wrong length.
+fn any_work(method: u8, random: &mut Random) -> Lent<u8> {
+    let length = cases::any_length(method, |format| format.data, random);
     let mut work = vec![0; length];
     match random.below(3) {
         0 => random.fill(&mut work),
@@ -414,9 +461,9 @@ fn any_work(random: &mut Random) -> Lent<u8> {
 fn states(random: &mut Random, tally: &mut Tally) -> Outcome<()> {
     let array = cases::any_array(random);
     let stripe = cases::any_stripe(&array, random);
-    start(&array, stripe, &mut any_work(random), tally)?;
+    start(&array, stripe, &mut any_work(array.method, random), tally)?;
     let state = any_state(random);
-    finish(state, &any_work(random), tally)?;
+    finish(state, &any_work(state.method, random), tally)?;
     let member = cases::any_member(
         &Array {
             members: state.members,
@@ -424,11 +471,12 @@ fn states(random: &mut Random, tally: &mut Tally) -> Outcome<()> {
         },
         random,
     );
-    let mut length = random.below(LONGEST + 1);
+    let block = Format::of(state.method).block();
+    let mut length = random.below(block + OVER + 1);
     if let Some(at) = state.at.get(member) {
-        length = length.min(random.pick(&[LONGEST, BLOCK.saturating_sub(usize::from(*at))]));
+        length = length.min(random.pick(&[length, block.saturating_sub(usize::from(*at))]));
     }
-    let mut work = any_work(random);
+    let mut work = any_work(state.method, random);
     let taken = piece(state, member, &random.bytes(length), &mut work, tally)?;
     finish(taken.state, &work, tally)?;
     Ok(())
@@ -464,6 +512,6 @@ pub fn compare(random: &mut Random) -> Outcome<String> {
         &format!("{VERDICTS} 4 6 8"),
     )?;
     Ok(format!(
-        "calls alike by both methods in {LISTS} lists: {listed}; from any state: {single}; in {cuts} stripes cut at each place, {odd} in odd pieces, and {waiting} states in which a byte waits or none"
+        "calls alike by all methods in {LISTS} lists: {listed}; from any state: {single}; in {cuts} stripes cut at each place, {odd} in odd pieces, and {waiting} states in which a byte waits or none"
     ))
 }

@@ -8,15 +8,14 @@ use crate::random::Random;
 use model::Answer;
 use model::layout::{Array, Owner};
 use model::stripe::{
-    self, APPLICATION, BLOCK, Checked, DATA, Fits, Read, Source, UNCHECKED, Verdict,
-    combine_guards, guard_of, is_combined,
+    self, Checked, Fits, Read, Source, UNCHECKED, Verdict, combine_guards, guard_of, is_combined,
 };
 
 /// Up to so many members are tried in every way in which they can stand, more of them in some ways.
 const EVERY: usize = 6;
 const SOME: usize = 400;
-/// How often the sentences of the rule are tried for each number of members.
-const SENTENCES: usize = 20;
+/// How often the sentences of the rule are tried for each method and number of members.
+const SENTENCES: usize = 7;
 
 #[derive(Clone, Copy, Debug, PartialEq)]
 pub enum Standing {
@@ -63,7 +62,8 @@ pub fn stand(case: &mut Case, standings: &[Standing], tear: bool, random: &mut R
     if tear && case.array.method == 2 && good.contains(&parity) && random.one_in(2) {
         verdict = case.tear_guards(random);
     } else if tear && !good.is_empty() {
-        verdict = case.tear(random.pick(&good), random.below(DATA), random);
+        let place = cases::any_place(&case.format(), random);
+        verdict = case.tear(random.pick(&good), place, random);
     }
     let wrong: Vec<Fits> = bad
         .iter()
@@ -89,6 +89,14 @@ pub fn stand(case: &mut Case, standings: &[Standing], tear: bool, random: &mut R
     }
 }
 
+/// What the guards of a clean stripe combine to: zero, but by method 3, where that of a block of zeros is not zero, this one if they are odd in number.
+fn when_clean(array: &Array) -> u32 {
+    match (array.method, array.members % 2) {
+        (3, 1) => 0x98F9_4189,
+        _ => 0,
+    }
+}
+
 /// A whole stripe that a job leaves.
 pub type Whole = Answer<Vec<u8>>;
 
@@ -100,7 +108,7 @@ pub fn read(
     random: &mut Random,
     tally: &mut Tally,
 ) -> Outcome<Answer<Read>> {
-    let out = random.bytes(DATA);
+    let out = random.bytes(case.format().data);
     jobs::read(&case.array, block, &case.bytes, &out, tally)?;
     Ok(stripe::read(&case.array, block, &case.bytes, &out))
 }
@@ -112,7 +120,7 @@ pub fn rebuild(case: &Case, member: usize, tally: &mut Tally) -> Outcome<Whole> 
 }
 
 fn update(case: &Case, block: u64, random: &mut Random, tally: &mut Tally) -> Outcome<Whole> {
-    let data = random.bytes(DATA);
+    let data = random.bytes(case.format().data);
     jobs::update(&case.array, block, &data, &case.bytes, tally)?;
     Ok(stripe::update(&case.array, block, &data, &case.bytes))
 }
@@ -158,7 +166,7 @@ impl Made {
     }
 
     fn block(&self, member: usize) -> &[u8] {
-        &self.case.bytes[stripe::span(member)]
+        &self.case.bytes[self.case.format().span(member)]
     }
 
     fn others(&self, member: usize) -> impl Iterator<Item = usize> {
@@ -171,12 +179,13 @@ impl Made {
     }
 
     fn from_others(&self, member: usize) -> Vec<u8> {
-        stripe::combine(self.others(member).map(|other| self.block(other)))
+        let blocks = self.others(member).map(|other| self.block(other));
+        stripe::combine(&self.case.format(), blocks)
     }
 
     /// What the others' guards combine to is the guard of what their data combine to. So it is in every stripe that is not torn.
     fn guards_fit(&self, member: usize) -> bool {
-        let stored = stripe::stored_guards(&self.case.bytes);
+        let stored = self.case.stored_guards();
         let combined = combine_guards(self.others(member).map(|other| stored[other]));
         combined == guard_of(&self.case.array, &self.from_others(member))
     }
@@ -201,7 +210,7 @@ impl Made {
 
     /// What a read of the block on a member has to give.
     fn due_read(&self, member: usize) -> Answer<Read> {
-        let own = self.block(member)[..DATA].to_vec();
+        let own = self.case.data_of(member).to_vec();
         let (source, data) = match self.standings[member] {
             Good => (Source::Stored, own),
             Unchecked => (Source::Unchecked, own),
@@ -212,15 +221,17 @@ impl Made {
     }
 
     /// A rebuild is done where all others are good, and by method 2 fit, however the member itself stands. It leaves these, makes a good block of their
-    /// data, and all guards combine to zero.
+    /// data, and all guards combine as those of a clean stripe do.
     fn rebuild(&self, member: usize, tally: &mut Tally) -> Outcome<()> {
         let rebuilt = rebuild(&self.case, member, tally)?;
         done_if(self.can_be_made(member), &rebuilt)?;
         let Ok(whole) = rebuilt else { return Ok(()) };
-        let block = &whole[stripe::span(member)];
-        known(&self.from_others(member)[..], &block[..DATA])?;
+        let format = self.case.format();
+        let block = &whole[format.span(member)];
+        known(&self.from_others(member)[..], &block[..format.data])?;
         good(&self.case, member, block)?;
-        known(0, combine_guards(stripe::stored_guards(&whole)))?;
+        let combined = combine_guards(stripe::stored_guards(&format, &whole));
+        known(when_clean(&self.case.array), combined)?;
         self.left(&whole, &[member])
     }
 
@@ -239,17 +250,19 @@ impl Made {
             &updated,
         )?;
         let Ok(whole) = updated else { return Ok(()) };
+        let format = self.case.format();
         for member in both {
-            good(&self.case, member, &whole[stripe::span(member)])?;
+            good(&self.case, member, &whole[format.span(member)])?;
         }
-        let [before, after] = [&self.case.bytes, &whole].map(|bytes| stripe::stored_guards(bytes));
+        let [before, after] =
+            [&self.case.bytes, &whole].map(|bytes| stripe::stored_guards(&format, bytes));
         known(combine_guards(before), combine_guards(after))?;
         self.left(&whole, &both)
     }
 
     /// All members are as they were, but for these.
     fn left(&self, whole: &[u8], written: &[usize]) -> Outcome<()> {
-        let mut blocks = whole.chunks(BLOCK).enumerate();
+        let mut blocks = whole.chunks(self.case.format().block()).enumerate();
         blocks.try_for_each(|(member, block)| match written.contains(&member) {
             true => Ok(()),
             false => known(self.block(member), block),
@@ -273,10 +286,11 @@ impl Made {
     }
 }
 
-/// A sealed stripe of so many members.
-pub fn sealed(members: usize, random: &mut Random) -> Case {
+/// A sealed stripe of a method and so many members.
+pub fn sealed(method: u8, members: usize, random: &mut Random) -> Case {
     let array = Array {
         members,
+        method,
         ..cases::array(random)
     };
     Case::sealed(array, cases::stripe_of(&array, random), random)
@@ -296,7 +310,7 @@ fn every_way(random: &mut Random, tally: &mut Tally) -> Outcome<usize> {
                 ..=EVERY => standings(members, way),
                 _ => mostly_good(members, random),
             };
-            let case = sealed(members, random);
+            let case = sealed(cases::any_method(random), members, random);
             let made = Made::new(case, standings, random.one_in(2), random);
             made.calls(random, tally).map_err(|difference| {
                 format!("members that stand {:?}: {difference}", made.standings)
@@ -351,7 +365,7 @@ impl Sentences {
         let case = self.with(&[(self.one, Unchecked)], rest, random);
         let due = Read {
             source: Source::Unchecked,
-            data: case.bytes[stripe::span(self.one)][..DATA].to_vec(),
+            data: case.data_of(self.one).to_vec(),
         };
         known(Ok(due), read(&case, self.block, random, tally)?)
     }
@@ -397,8 +411,9 @@ impl Sentences {
     /// Unchecked goes before torn, also where the marked block itself makes the stripe torn.
     fn torn(&self, torn: usize, random: &mut Random, tally: &mut Tally) -> Outcome<()> {
         let mut case = self.sealed.clone();
-        case.tear(torn, random.below(DATA), random);
-        case.block(self.one)[APPLICATION].copy_from_slice(&UNCHECKED);
+        let format = case.format();
+        case.tear(torn, cases::any_place(&format, random), random);
+        case.block(self.one)[format.mark()].copy_from_slice(&UNCHECKED);
         let (member, count) = (self.one, 1);
         verdict(&case, Verdict::Unchecked { member, count }, random, tally)
     }
@@ -424,14 +439,33 @@ impl Sentences {
 
     /// The two bytes of the application tag alone make a block unchecked.
     fn near_marks(&self) -> Outcome<()> {
-        for (at, value) in NEAR_MARKS {
+        let mark = self.sealed.format().mark();
+        for (from, value) in NEAR_MARKS {
             let mut case = self.sealed.clone();
             let block = case.block(self.one);
+            let at = mark.start.strict_add_signed(from);
             block[at..at + value.len()].copy_from_slice(value);
-            let marked = block[514] == 0xFF && block[515] == 0xFF;
+            let marked = block[mark.start] == 0xFF && block[mark.start + 1] == 0xFF;
             let said = tag::checked(&self.sealed.array, self.sealed.stripe, self.one, block)?;
             known(marked, said == Ok(Checked::Unchecked))
                 .map_err(|difference| format!("{value:02X?} at {at}: {difference}"))?;
+        }
+        Ok(())
+    }
+
+    /// The mark goes before everything, whatever is in the spare bytes behind it, where there are any.
+    fn marked_before_spare(&self) -> Outcome<()> {
+        let Case { array, stripe, .. } = self.sealed;
+        let format = self.sealed.format();
+        for (spare, value) in format.spare().flat_map(|at| [(at, 0x01), (at, 0xFF)]) {
+            let mut case = self.sealed.clone();
+            case.block(self.one)[spare] = value;
+            let block = case.block(self.one).to_vec();
+            let said = tag::checked(&array, stripe, self.one, &block)?;
+            known(true, matches!(said, Ok(Checked::Bad(_))))?;
+            case.block(self.one)[format.mark()].copy_from_slice(&UNCHECKED);
+            let said = tag::checked(&array, stripe, self.one, case.block(self.one))?;
+            known(Ok(Checked::Unchecked), said)?;
         }
         Ok(())
     }
@@ -439,8 +473,8 @@ impl Sentences {
 
 /// The sentences of the rule, each by its name; and how many they are.
 #[rustfmt::skip]
-fn sentences(members: usize, random: &mut Random, tally: &mut Tally) -> Outcome<usize> {
-    let on = Sentences::on(sealed(members, random), random);
+fn sentences(method: u8, members: usize, random: &mut Random, tally: &mut Tally) -> Outcome<usize> {
+    let on = Sentences::on(sealed(method, members, random), random);
     let Sentences { one, other, parity, .. } = on;
     let tried = [
         ("an unchecked block is read, the others good", on.read_unchecked(Good, random, tally)),
@@ -461,6 +495,7 @@ fn sentences(members: usize, random: &mut Random, tally: &mut Tally) -> Outcome<
         ("one member bad, all others unchecked", on.bad_beside(random, tally)),
         ("all members unchecked", on.all_unchecked(random, tally)),
         ("nearly marked", on.near_marks()),
+        ("marked, and a spare byte not zero", on.marked_before_spare()),
     ];
     all_named(members, &tried)
 }
@@ -469,9 +504,10 @@ pub fn compare(random: &mut Random) -> Outcome<String> {
     let mut tally = Tally::default();
     let stripes = every_way(random, &mut tally)?;
     let mut tried = 0;
-    for members in 3..=16 {
-        for _ in 0..SENTENCES {
-            tried = sentences(members, random, &mut tally)?;
+    for method in cases::METHODS {
+        for members in (3..=16).flat_map(|members| [members; SENTENCES]) {
+            tried = sentences(method, members, random, &mut tally)
+                .map_err(|difference| format!("method {method}: {difference}"))?;
         }
     }
     let calls = [
@@ -485,7 +521,7 @@ pub fn compare(random: &mut Random) -> Outcome<String> {
         tally.of(call, "512")?;
     }
     Ok(format!(
-        "answers known beforehand by both methods on {stripes} stripes, up to {EVERY} members in every way to stand, and in {tried} named cases: {}",
+        "answers known beforehand by all methods on {stripes} stripes, up to {EVERY} members in every way to stand, and in {tried} named cases: {}",
         calls.join(", ")
     ))
 }

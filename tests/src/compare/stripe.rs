@@ -6,7 +6,7 @@ use crate::lent::Lent;
 use crate::library;
 use crate::random::Random;
 use model::layout::Array;
-use model::stripe::{self, DATA, Source};
+use model::stripe::{self, Source};
 
 fn seal(array: &Array, stripe: u64, data: &[u8], before: &[u8], tally: &mut Tally) -> Outcome<()> {
     let answer = stripe::seal(array, stripe, data, before);
@@ -106,14 +106,15 @@ fn jobs(case: &Case, random: &mut Random, tally: &mut Tally) -> Outcome<()> {
     } = case;
     seal(array, *stripe, data, &random.bytes(bytes.len()), tally)?;
     let lowest = stripe * array.data_members() as u64;
-    let out = random.bytes(DATA);
+    let length = case.format().data;
+    let out = random.bytes(length);
     for block in lowest..lowest + array.data_members() as u64 {
         read(array, block, bytes, &out, tally)?;
     }
     for _ in 0..2 {
         rebuild(array, *stripe, random.below(array.members), bytes, tally)?;
         let block = lowest + random.below(array.data_members()) as u64;
-        update(array, block, &random.bytes(DATA), bytes, tally)?;
+        update(array, block, &random.bytes(length), bytes, tally)?;
     }
     Ok(())
 }
@@ -128,11 +129,12 @@ fn refusals(random: &mut Random, tally: &mut Tally) -> Outcome<()> {
     let block = cases::any_block(&array, random);
     let bytes = cases::any_stripe_bytes(&array, stripe, random);
     rebuild(&array, stripe, member, &bytes, tally)?;
-    let length = cases::any_length(array.members.clamp(1, 20) * DATA - DATA, random);
+    let data_members = array.members.clamp(1, 20) - 1;
+    let length = cases::any_length(array.method, |format| data_members * format.data, random);
     seal(&array, stripe, &random.bytes(length), &bytes, tally)?;
     let of_block = array.place(block).map_or(0, |place| place.stripe);
     let bytes = cases::any_stripe_bytes(&array, of_block, random);
-    let length = cases::any_length(DATA, random);
+    let length = cases::any_length(array.method, |format| format.data, random);
     let data = random.bytes(length);
     read(&array, block, &bytes, &data, tally)?;
     update(&array, block, &data, &bytes, tally)
@@ -154,7 +156,7 @@ pub fn compare(random: &mut Random) -> Outcome<String> {
         tally.of(call, "12")?;
     }
     Ok(format!(
-        "calls alike by both methods on {stripes} stripes and at refusals: {}",
+        "calls alike by all methods on {stripes} stripes and at refusals: {}",
         calls.join(", ")
     ))
 }

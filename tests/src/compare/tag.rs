@@ -5,8 +5,9 @@ use crate::lent::Lent;
 use crate::library;
 use crate::random::Random;
 use model::Answer;
+use model::format::Format;
 use model::layout::Array;
-use model::stripe::{self, BLOCK, Checked, Field};
+use model::stripe::{self, Checked, Field};
 
 fn field_numbers(field: Field) -> library::Field {
     let Field { found, expected } = field;
@@ -81,14 +82,14 @@ fn refusals(random: &mut Random, tally: &mut Tally) -> Outcome<()> {
     let array = cases::any_array(random);
     let stripe = cases::any_stripe(&array, random);
     let member = cases::any_member(&array, random);
-    let length = cases::any_length(BLOCK, random);
+    let length = cases::any_length(array.method, Format::block, random);
     check(&array, stripe, member, &random.bytes(length), tally)
 }
 
 pub fn compare(random: &mut Random) -> Outcome<String> {
     let mut tally = Tally::default();
     let stripes = cases::each_stripe(random, |case, _| {
-        let mut blocks = case.bytes.chunks(BLOCK).enumerate();
+        let mut blocks = case.bytes.chunks(case.format().block()).enumerate();
         blocks.try_for_each(|(member, block)| {
             check(&case.array, case.stripe, member, block, &mut tally)
         })
@@ -102,6 +103,6 @@ pub fn compare(random: &mut Random) -> Outcome<String> {
         "--- G-- -A- --R GA- G-R -AR GAR unchecked 1 2 3 5 6",
     )?;
     Ok(format!(
-        "calls alike by both methods on {stripes} stripes and at refusals: {calls}"
+        "calls alike by all methods on {stripes} stripes and at refusals: {calls}"
     ))
 }

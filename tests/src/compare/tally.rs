@@ -4,7 +4,7 @@ use super::cases::METHODS;
 use std::collections::BTreeMap;
 
 /// An answer that came up less often was not tried.
-const OFTEN: u64 = 100;
+const OFTEN: u64 = 50;
 
 #[derive(Default)]
 pub struct Tally {
@@ -41,8 +41,13 @@ impl Tally {
 
     /// The same, each answer often by every method.
     pub fn of_each(&self, call: &str, answers: &str) -> Result<String, String> {
-        for method in METHODS {
-            self.often(call, answers, |by| by == method)
+        self.of_some(&METHODS, call, answers)
+    }
+
+    /// The same, each answer often by each of these methods.
+    pub fn of_some(&self, methods: &[u8], call: &str, answers: &str) -> Result<String, String> {
+        for method in methods {
+            self.often(call, answers, |by| by == *method)
                 .map_err(|difference| format!("by method {method} {difference}"))?;
         }
         self.of(call, answers)

@@ -1,18 +1,19 @@
-//! A block is updated, and data or parity are not written; then a member is lost. By method 1 any other block comes out wrong and looks right. By method 2 it is
-//! refused, unless the guards happen to fit. What each call has to answer is known from what was done to the stripe.
+//! A block is updated, and data or parity are not written; then a member is lost. By methods 1 and 3 any other block comes out wrong and looks right. By method 2
+//! it is refused, unless the guards happen to fit. What each call has to answer is known from what was done to the stripe.
 
 use super::cases::{self, Case, METHODS};
 use super::{Outcome, Tally, all_named, known, standing, stripe as jobs, tag};
 use crate::random::Random;
+use model::format::Format;
 use model::layout::{Array, Owner};
-use model::stripe::{
-    self, Checked, DATA, Fits, Read, Source, Verdict, combine_guards, guard_of, stored_guards,
-};
+use model::stripe::{self, Checked, Fits, Read, Source, Verdict, combine_guards, guard_of};
 
-/// How often the cases are tried for each method and number of members.
-const TIMES: usize = 12;
+/// How often the cases are tried for each method and number of members: a stripe of method 3 takes eight times as long.
+const TIMES: [usize; 3] = [12, 12, 3];
 /// How many updates go over a stripe.
 const UPDATES: usize = 5;
+/// At how many places of a block a word is turned.
+const TURNED: usize = 256;
 
 /// The data of the block that is updated, before and after, and those of another block of its stripe.
 struct Blocks {
@@ -22,35 +23,35 @@ struct Blocks {
 }
 
 impl Blocks {
-    fn any(random: &mut Random) -> Self {
-        let [old, new, other] = [(); 3].map(|()| random.bytes(DATA));
+    fn any(length: usize, random: &mut Random) -> Self {
+        let [old, new, other] = [(); 3].map(|()| random.bytes(length));
         Blocks { old, new, other }
     }
 
     /// One byte is updated.
-    fn near(random: &mut Random) -> Self {
-        let mut blocks = Blocks::any(random);
+    fn near(length: usize, random: &mut Random) -> Self {
+        let mut blocks = Blocks::any(length, random);
         blocks.new = blocks.old.clone();
-        blocks.new[random.below(DATA)] ^= random.between(1, 255) as u8;
+        blocks.new[random.below(length)] ^= random.between(1, 255) as u8;
         blocks
     }
 
-    fn like_old(random: &mut Random) -> Self {
-        let mut blocks = Blocks::any(random);
+    fn like_old(length: usize, random: &mut Random) -> Self {
+        let mut blocks = Blocks::any(length, random);
         blocks.other = blocks.old.clone();
         blocks
     }
 
-    fn like_new(random: &mut Random) -> Self {
-        let mut blocks = Blocks::any(random);
+    fn like_new(length: usize, random: &mut Random) -> Self {
+        let mut blocks = Blocks::any(length, random);
         blocks.other = blocks.new.clone();
         blocks
     }
 
     /// A word of zeros is made ones or back, at the place of this word of the other block.
-    fn turned(other: u16, random: &mut Random) -> Self {
-        let mut blocks = Blocks::any(random);
-        let place = 2 * random.below(DATA / 2);
+    fn turned(length: usize, other: u16, random: &mut Random) -> Self {
+        let mut blocks = Blocks::any(length, random);
+        let place = 2 * random.below(length / 2);
         let [before, after] = random.pick(&[[0x00, 0xFF], [0xFF, 0x00]]);
         blocks.old[place..place + 2].fill(before);
         blocks.new = blocks.old.clone();
@@ -61,8 +62,8 @@ impl Blocks {
 
     /// The worked stripe of document 000 has words of four bits. Here each is four times over in a word of sixteen, and three zero words lie between two
     /// of them, so that the sum comes round: the sums are the document's, four times over.
-    fn worked(nibbles: &[u8; 5]) -> Vec<u8> {
-        let mut data = vec![0; DATA];
+    fn worked(length: usize, nibbles: &[u8; 5]) -> Vec<u8> {
+        let mut data = vec![0; length];
         for (word, nibble) in data.rchunks_mut(8).zip(nibbles.iter().rev()) {
             word[6..].fill(nibble * 0x11);
         }
@@ -86,9 +87,10 @@ impl Cut {
         let data = array.data_members();
         let first = random.below(data);
         let second = (first + 1 + random.below(data - 1)) % data;
-        let mut bytes = random.bytes(data * DATA);
+        let length = array.format().data;
+        let mut bytes = random.bytes(data * length);
         for (index, block) in [(first, &blocks.old), (second, &blocks.other)] {
-            bytes[index * DATA..][..DATA].copy_from_slice(block);
+            bytes[index * length..][..length].copy_from_slice(block);
         }
         Cut::on(Case::over(array, stripe, bytes), blocks, [first, second])
     }
@@ -110,7 +112,8 @@ impl Cut {
     /// What comes out for the other block where the old and the new data do not belong together.
     fn wrong(&self) -> Vec<u8> {
         let Blocks { old, new, other } = &self.blocks;
-        stripe::combine([old, new, other].into_iter().map(|data| &data[..]))
+        let blocks = [old, new, other].into_iter().map(|data| &data[..]);
+        stripe::combine(&self.sealed.format(), blocks)
     }
 
     /// By method 2 the other block is made only if the guards combine as the data do.
@@ -177,7 +180,7 @@ impl Cut {
         let updated = self.updated(&self.sealed, tally)?;
         for (written, due) in [(self.one, &updated), (self.parity, &self.sealed)] {
             let lost = lost(&self.written(written, tally)?, self.parity, random);
-            let data = &due.bytes[stripe::span(self.parity)][..DATA];
+            let data = due.data_of(self.parity);
             let made = made(&lost, self.parity, data, random, tally)?;
             known(&due.bytes, &made.bytes)?;
             standing::verdict(&made, Verdict::Clean, random, tally)?;
@@ -188,12 +191,13 @@ impl Cut {
     /// Updates one after the other leave a clean stripe, whose guards are those of its data.
     fn updates(&self, random: &mut Random, tally: &mut Tally) -> Outcome<()> {
         let mut case = self.sealed.clone();
+        let length = case.format().data;
         for _ in 0..UPDATES {
             let index = random.below(case.array.data_members());
             let block = case.stripe * case.array.data_members() as u64 + index as u64;
-            let new = random.bytes(DATA);
+            let new = random.bytes(length);
             jobs::update(&case.array, block, &new, &case.bytes, tally)?;
-            case.data[index * DATA..][..DATA].copy_from_slice(&new);
+            case.data[index * length..][..length].copy_from_slice(&new);
             let updated = stripe::update(&case.array, block, &new, &case.bytes);
             let due = Case::over(case.array, case.stripe, case.data.clone());
             known(Ok(&due.bytes), updated.as_ref())?;
@@ -207,7 +211,7 @@ impl Cut {
     fn each_lost(&self, random: &mut Random, tally: &mut Tally) -> Outcome<()> {
         for member in 0..self.sealed.array.members {
             let lost = lost(&self.sealed, member, random);
-            let data = &self.sealed.bytes[stripe::span(member)][..DATA];
+            let data = self.sealed.data_of(member);
             let made = made(&lost, member, data, random, tally)?;
             known(&self.sealed.bytes, &made.bytes)?;
         }
@@ -219,7 +223,7 @@ impl Cut {
 impl Cut {
     /// The parity is good, its guard expected as found.
     fn parity_good(&self, case: &Case) -> Outcome<()> {
-        let block = &case.bytes[stripe::span(self.parity)];
+        let block = &case.bytes[case.format().span(self.parity)];
         let said = tag::checked(&case.array, case.stripe, self.parity, block)?;
         let Ok(Checked::Good(fields)) = said else {
             return Err(format!("the parity is {said:?}"));
@@ -254,7 +258,7 @@ impl Cut {
         let mut case = self.sealed.clone();
         let torn = case.tear_guards(random);
         let updated = self.updated(&case, tally)?;
-        let [before, after] = [&case, &updated].map(|case| stored_guards(&case.bytes));
+        let [before, after] = [&case, &updated].map(Case::stored_guards);
         known(combine_guards(before), combine_guards(after))?;
         standing::verdict(&updated, torn, random, tally)
     }
@@ -262,7 +266,7 @@ impl Cut {
     /// A byte of the parity's data changed: only the whole stripe tells, and no member with data is made.
     fn parity_changed(&self, random: &mut Random, tally: &mut Tally) -> Outcome<()> {
         let mut case = self.sealed.clone();
-        let place = random.below(DATA);
+        let place = random.below(case.format().data);
         case.spoil(self.parity, place, random);
         self.parity_good(&case)?;
         standing::verdict(&case, Verdict::Torn { place }, random, tally)?;
@@ -274,7 +278,7 @@ impl Cut {
 
     fn parity_as_sealed(&self, case: &Case, random: &mut Random, tally: &mut Tally) -> Outcome<()> {
         let lost = lost(case, self.parity, random);
-        let data = &self.sealed.bytes[stripe::span(self.parity)][..DATA];
+        let data = self.sealed.data_of(self.parity);
         let made = made(&lost, self.parity, data, random, tally)?;
         known(&self.sealed.bytes, &made.bytes)
     }
@@ -288,7 +292,7 @@ impl Cut {
         case.block(self.other).copy_from_slice(&block);
         let due = match alike {
             true => Verdict::Clean,
-            false => Verdict::Torn { place: DATA },
+            false => Verdict::Torn { place: data.len() },
         };
         standing::verdict(&case, due, random, tally)
     }
@@ -331,12 +335,12 @@ fn made(
         known(Ok(due), read)?;
     }
     let rebuilt = standing::rebuild(case, member, tally)?;
-    let bytes = rebuilt.map_err(|number| format!("a rebuild is refused by {number}"))?;
-    known(data, &bytes[stripe::span(member)][..DATA])?;
-    Ok(Case {
-        bytes,
+    let whole = Case {
+        bytes: rebuilt.map_err(|number| format!("a rebuild is refused by {number}"))?,
         ..case.clone()
-    })
+    };
+    known(data, whole.data_of(member))?;
+    Ok(whole)
 }
 
 /// A lost member is not made, by a read nor by a rebuild.
@@ -350,15 +354,16 @@ fn not_made(case: &Case, member: usize, random: &mut Random, tally: &mut Tally) 
 fn cases_of(method: u8, members: usize, random: &mut Random, tally: &mut Tally) -> Outcome<usize> {
     let array = Array { members, method, ..cases::array(random) };
     let refused = method == 2;
-    let cut = |blocks: fn(&mut Random) -> Blocks, random: &mut Random| {
-        let blocks = blocks(random);
+    let length = array.format().data;
+    let cut = |blocks: fn(usize, &mut Random) -> Blocks, random: &mut Random| {
+        let blocks = blocks(length, random);
         Cut::of(array, blocks, random)
     };
     let [any, near] = [Blocks::any, Blocks::near].map(|blocks| cut(blocks, random));
     let [like_old, like_new] = [Blocks::like_old, Blocks::like_new].map(|blocks| cut(blocks, random));
     let between = random.between(1, 65_534) as u16;
     let end = random.pick(&[0x0000, 0xFFFF]);
-    let [between, end] = [between, end].map(|other| Cut::of(array, Blocks::turned(other, random), random));
+    let [between, end] = [between, end].map(|other| Cut::of(array, Blocks::turned(length, other, random), random));
     let unseen = |cut: &Cut| !refused || cut.fits();
     let mut tried = vec![
         ("any data, another block lost", any.other_lost(!unseen(&any), random, tally)),
@@ -399,21 +404,22 @@ fn worked(method: u8, random: &mut Random, tally: &mut Tally) -> Outcome<()> {
         [0x8, 0xA, 0xB, 0x0, 0xD],
         [0xC, 0x3, 0x2, 0x7, 0x4],
     ];
-    let [a, b, c, d] = columns.map(|column| Blocks::worked(&column));
+    let worked = |column: &[u8; 5]| Blocks::worked(array.format().data, column);
+    let [a, b, c, d] = columns.map(|column| worked(&column));
     let blocks = Blocks {
         old: a.clone(),
-        new: Blocks::worked(&[0x4, 0xA, 0x8, 0x7, 0x3]),
+        new: worked(&[0x4, 0xA, 0x8, 0x7, 0x3]),
         other: b.clone(),
     };
     let sealed = Case::over(array, 4, [a, b, c, d].concat());
     let cut = Cut::on(sealed, blocks, [0, 1]);
-    let rebuilt = Blocks::worked(&[0x9, 0x5, 0xF, 0x0, 0x7]);
+    let rebuilt = worked(&[0x9, 0x5, 0xF, 0x0, 0x7]);
     known(&rebuilt, &cut.wrong())?;
     if method == 2 {
         let due = [0x9999, 0xAAAA, 0xCCCC, 0xDDDD, 0x2222];
-        known(&due[..], &stored_guards(&cut.sealed.bytes))?;
+        known(&due[..], &cut.sealed.stored_guards())?;
         let [first, second] = [cut.one, cut.parity].map(|member| cut.written(member, tally));
-        let [first, second] = [first?, second?].map(|torn| stored_guards(&torn.bytes));
+        let [first, second] = [first?, second?].map(|torn| torn.stored_guards());
         known([0x2222, 0x2222], [first[0], first[4]])?;
         known([0x9999, 0x9999], [second[0], second[4]])?;
         for guards in [first, second] {
@@ -422,18 +428,19 @@ fn worked(method: u8, random: &mut Random, tally: &mut Tally) -> Outcome<()> {
         }
         // The document has 8 for this one; 9, 5, F, 0 and 7 make 6 by its rule. Either way it is not the 1 of the guards.
         known(0x6666, guard_of(&array, &rebuilt))?;
-        let parity = &cut.sealed.bytes[stripe::span(4)][..DATA];
-        known(0xCCCC, guard_of(&array, parity))?;
+        known(0xCCCC, guard_of(&array, cut.sealed.data_of(4)))?;
     }
     cut.other_lost(method == 2, random, tally)?;
     cut.itself_lost(random, tally)
 }
 
-/// A word of a block turned from zeros to ones or back, at each place. By method 1 the guard tells, by method 2 only the whole stripe; any other change of the
-/// word is told by the guard of both.
+/// A word of a block turned from zeros to ones or back, at each place, or by method 3 at one in eight. By methods 1 and 3 the guard tells, by method 2 only
+/// the whole stripe; any other change of the word is told by the guard of each.
 fn turned_words(method: u8, random: &mut Random, tally: &mut Tally) -> Outcome<usize> {
     let mut tried = 0;
-    for place in 0..DATA / 2 {
+    let length = Format::of(method).data;
+    let step = length / 2 / TURNED;
+    for place in (0..TURNED).map(|turn| turn * step + turn % step) {
         for [before, after] in [[0x0000, 0xFFFF], [0xFFFF, 0x0000]] {
             for turned in [true, false] {
                 let array = Array {
@@ -442,11 +449,11 @@ fn turned_words(method: u8, random: &mut Random, tally: &mut Tally) -> Outcome<u
                 };
                 let index = random.below(array.data_members());
                 let stripe = cases::stripe_of(&array, random);
-                let mut data = random.bytes(array.data_members() * DATA);
+                let mut data = random.bytes(array.data_members() * length);
                 let word = |word: u16, data: &mut [u8]| {
                     data[2 * place..2 * place + 2].copy_from_slice(&word.to_be_bytes());
                 };
-                word(before, &mut data[index * DATA..]);
+                word(before, &mut data[index * length..]);
                 let mut case = Case::over(array, stripe, data);
                 let member = index + usize::from(index >= array.parity_member(stripe));
                 let between = random.between(1, 65_534) as u16;
@@ -481,13 +488,14 @@ fn turned_words(method: u8, random: &mut Random, tally: &mut Tally) -> Outcome<u
 pub fn compare(random: &mut Random) -> Outcome<String> {
     let mut tally = Tally::default();
     let (mut tried, mut turned) = (0, 0);
-    for method in METHODS {
+    for (method, times) in METHODS.into_iter().zip(TIMES) {
         worked(method, random, &mut tally)
             .map_err(|difference| format!("method {method}, the worked stripe: {difference}"))?;
         for members in 3..=16 {
-            for _ in 0..TIMES {
-                tried = cases_of(method, members, random, &mut tally)
+            for _ in 0..times {
+                let named = cases_of(method, members, random, &mut tally)
                     .map_err(|difference| format!("method {method}: {difference}"))?;
+                tried = tried.max(named);
             }
         }
         turned += turned_words(method, random, &mut tally)?;
@@ -508,7 +516,7 @@ pub fn compare(random: &mut Random) -> Outcome<String> {
         tally.of(call, answers)?;
     }
     Ok(format!(
-        "known beforehand, for the worked stripe of document 000, in {tried} named cases, and with {turned} words turned, at every place: {}",
+        "known beforehand by all methods, for the worked stripe of document 000, in {tried} named cases, and with {turned} words turned, all over a block: {}",
         calls.join(", ")
     ))
 }

@@ -2,6 +2,7 @@
 //! turned, divided by the generator; of what is left every bit turned, the highest power as the lowest bit.
 
 use super::Answer;
+use std::array;
 use std::sync::LazyLock;
 
 /// x^32 and the terms of 1EDC6F41h.
@@ -9,6 +10,13 @@ const GENERATOR: u64 = 0x1_1EDC_6F41;
 
 /// The bytes of a block.
 pub const BLOCK: usize = 4_096;
+
+/// Where a register starts.
+pub const START: u32 = 0xFFFF_FFFF;
+
+/// By what the guards of single bytes differ from that of a byte of zero.
+static SINGLE: LazyLock<[u32; 256]> =
+    LazyLock::new(|| array::from_fn(|byte| crc32c(&[byte as u8]) ^ crc32c(&[0])));
 
 /// The guard of a block of zeros.
 static BLANK: LazyLock<u32> = LazyLock::new(|| crc32c(&[0; BLOCK]));
@@ -25,6 +33,15 @@ pub fn crc32c(bytes: &[u8]) -> u32 {
         }
     }
     !(rest as u32).reverse_bits()
+}
+
+/// The register of a run whose beginning left `register`, and which goes on with `bytes`. Every bit of it turned is the guard.
+pub fn go_on(register: u32, bytes: &[u8]) -> u32 {
+    let single = &*SINGLE;
+    bytes.iter().fold(register, |register, byte| {
+        let [low, rest @ ..] = register.to_le_bytes();
+        u32::from_le_bytes([rest[0], rest[1], rest[2], 0]) ^ single[usize::from(low ^ byte)]
+    })
 }
 
 /// What the stored guards of blocks combine to where they do not fit, None where they do: each as it differs from the guard of zeros, they

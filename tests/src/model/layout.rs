@@ -1,6 +1,7 @@
 //! Where blocks lie, by walking: the members of a stripe are named one after the other, and a block is looked for among them.
 
 use super::Answer;
+use super::format::Format;
 
 #[derive(Clone, Copy, Debug, PartialEq)]
 pub struct Array {
@@ -32,7 +33,7 @@ impl Array {
         if !(1..=268_435_456).contains(&self.stripes) {
             return Err(2);
         }
-        if ![1, 2].contains(&self.method) {
+        if ![1, 2, 3].contains(&self.method) {
             return Err(12);
         }
         Ok(())
@@ -63,6 +64,16 @@ impl Array {
         } else {
             Err(5)
         }
+    }
+
+    /// What its blocks are.
+    pub fn format(&self) -> Format {
+        Format::of(self.method)
+    }
+
+    /// How many bytes a stripe has in memory.
+    pub fn stripe_length(&self) -> usize {
+        self.members * self.format().block()
     }
 
     /// How many members of a stripe hold data.

@@ -2,6 +2,7 @@
 
 pub mod checksum;
 pub mod crc32c;
+pub mod format;
 pub mod guard;
 pub mod join;
 pub mod layout;

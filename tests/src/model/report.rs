@@ -2,7 +2,7 @@
 
 use super::Answer;
 use super::layout::Array;
-use super::stripe::{self, BLOCK, Fits, Verdict};
+use super::stripe::{self, Fits, Verdict};
 
 /// The header of an image, of the first version where that says enough.
 pub fn header(array: &Array) -> Vec<u8> {
@@ -133,7 +133,7 @@ pub fn report(image: &[u8]) -> String {
         Ok(opened) => opened,
         Err(number) => return refused_line(number),
     };
-    let length = array.members * BLOCK;
+    let length = array.stripe_length();
     let due = array.stripes as usize * length;
     let mut report = Report::open(array);
     let mut text = report.first_line();

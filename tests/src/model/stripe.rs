@@ -1,14 +1,10 @@
 //! A stripe in memory: the tags due on its blocks, and the jobs on it. A job gives what it makes; a refused one makes nothing.
 
+use super::format::{Format, in_bytes, number};
 use super::layout::{Array, Owner};
-use super::{Answer, checksum, guard};
-use std::ops::Range;
+use super::{Answer, checksum, crc32c, guard};
 
-pub const DATA: usize = 512;
-pub const BLOCK: usize = 520;
-
-/// The application tag of a block, and what stands there if the block is not to be checked.
-pub const APPLICATION: Range<usize> = 514..516;
+/// What stands in the two bytes of a block's application tag if the block is not to be checked.
 pub const UNCHECKED: [u8; 2] = [0xFF; 2];
 
 /// A field of a tag: what stands in the block, and what is due there.
@@ -92,15 +88,10 @@ pub enum Verdict {
         member: usize,
         count: usize,
     },
-    /// The first byte at which the data do not combine to zero; 512 where only the guards of method 2 do not.
+    /// The first byte at which the data do not combine to zero; the one behind the data, 512, where only the guards of method 2 do not.
     Torn {
         place: usize,
     },
-}
-
-/// The bytes of a member in a stripe.
-pub fn span(member: usize) -> Range<usize> {
-    member * BLOCK..(member + 1) * BLOCK
 }
 
 fn sized(bytes: &[u8], length: usize) -> Answer<()> {
@@ -112,38 +103,46 @@ fn sized(bytes: &[u8], length: usize) -> Answer<()> {
 }
 
 /// The byte by byte exclusive-or of the data of some blocks.
-pub fn combine<'a>(blocks: impl Iterator<Item = &'a [u8]>) -> Vec<u8> {
-    let mut sum = vec![0; DATA];
+pub fn combine<'a>(format: &Format, blocks: impl Iterator<Item = &'a [u8]>) -> Vec<u8> {
+    let mut sum = vec![0; format.data];
     for block in blocks {
-        for (place, byte) in block[..DATA].iter().enumerate() {
+        for (place, byte) in block[..format.data].iter().enumerate() {
             sum[place] ^= byte;
         }
     }
     sum
 }
 
-/// The tag due at a place where the data have this guard.
-pub fn due(array: &Array, stripe: u64, member: usize, guard: u16) -> [u8; 8] {
+/// The tag due at a place where the data have this guard: guard, application tag, zeros where bytes are spare, reference tag. The numbers of an
+/// array's blocks all have 32 bits, so that of the eight bytes which a reference tag has by method 3 the first four are zero so far.
+pub fn due(array: &Array, stripe: u64, member: usize, guard: u32) -> Vec<u8> {
     let (kind, number) = match array.row(stripe)[member] {
         Owner::Parity { lowest } => (0x80, lowest),
         Owner::Data { block } => (0x00, block),
     };
-    let [g0, g1] = guard.to_be_bytes();
-    let reference = u32::try_from(number).expect("block numbers have 32 bits");
-    let [r0, r1, r2, r3] = reference.to_be_bytes();
-    [g0, g1, kind, array.volume, r0, r1, r2, r3]
+    let format = array.format();
+    [
+        in_bytes(guard.into(), format.guard().len()),
+        vec![kind, array.volume],
+        vec![0; format.spare().len()],
+        in_bytes(number, format.reference().len()),
+    ]
+    .concat()
 }
 
 /// Data with the tag due at a place, where this guard is.
-pub fn tagged(array: &Array, stripe: u64, member: usize, data: &[u8], guard: u16) -> Vec<u8> {
+pub fn tagged(array: &Array, stripe: u64, member: usize, data: &[u8], guard: u32) -> Vec<u8> {
     [data, &due(array, stripe, member, guard)].concat()
 }
 
 /// The guard of a block's data by the array's method.
-pub fn guard_of(array: &Array, data: &[u8]) -> u16 {
+pub fn guard_of(array: &Array, data: &[u8]) -> u32 {
     match array.method {
-        1 => guard::go_on(0, data),
-        _ => checksum::checksum(data).expect("a block has whole words"),
+        1 => guard::go_on(0, data).into(),
+        2 => checksum::checksum(data)
+            .expect("a block has whole words")
+            .into(),
+        _ => !crc32c::go_on(crc32c::START, data),
     }
 }
 
@@ -153,33 +152,38 @@ pub fn is_combined(array: &Array, stripe: u64, member: usize) -> bool {
 }
 
 /// What guards combine to.
-pub fn combine_guards(guards: impl IntoIterator<Item = u16>) -> u16 {
+pub fn combine_guards(guards: impl IntoIterator<Item = u32>) -> u32 {
     guards.into_iter().fold(0, |sum, guard| sum ^ guard)
 }
 
-fn number(bytes: &[u8]) -> u64 {
-    bytes.iter().fold(0, |n, byte| n << 8 | u64::from(*byte))
+/// The guard that stands in a tag.
+pub fn guard_in(format: &Format, tag: &[u8]) -> u32 {
+    let [guard, ..] = format.fields(tag);
+    number(guard) as u32
 }
 
 /// What is said of a block at a place, whose data have the guard `own`. The mark in the application tag goes first, whatever the rest is.
-pub fn told(array: &Array, stripe: u64, member: usize, own: u16, tag: &[u8]) -> Checked {
-    if tag[2..4] == UNCHECKED {
+pub fn told(array: &Array, stripe: u64, member: usize, own: u32, tag: &[u8]) -> Checked {
+    let format = array.format();
+    let found = format.fields(tag);
+    if found[1][..2] == UNCHECKED {
         return Checked::Unchecked;
     }
     let guard = if is_combined(array, stripe, member) {
-        u16::from_be_bytes([tag[0], tag[1]])
+        guard_in(&format, tag)
     } else {
         own
     };
     let due = due(array, stripe, member, guard);
-    let field = |bytes: Range<usize>| Field {
-        found: number(&tag[bytes.clone()]),
-        expected: number(&due[bytes]),
+    let expected = format.fields(&due);
+    let field = |at: usize| Field {
+        found: number(found[at]),
+        expected: number(expected[at]),
     };
     let fields = Fields {
-        guard: field(0..2),
-        application: field(2..4),
-        reference: field(4..8),
+        guard: field(0),
+        application: field(1),
+        reference: field(2),
     };
     if fields.fits() == Fits::ALL {
         Checked::Good(fields)
@@ -190,12 +194,12 @@ pub fn told(array: &Array, stripe: u64, member: usize, own: u16, tag: &[u8]) -> 
 
 /// What is said of a block at a place.
 fn told_of(array: &Array, stripe: u64, member: usize, block: &[u8]) -> Checked {
-    let (data, tag) = block.split_at(DATA);
+    let (data, tag) = block.split_at(array.format().data);
     told(array, stripe, member, guard_of(array, data), tag)
 }
 
 fn is_good(array: &Array, stripe: u64, bytes: &[u8], member: usize) -> bool {
-    let told = told_of(array, stripe, member, &bytes[span(member)]);
+    let told = told_of(array, stripe, member, &bytes[array.format().span(member)]);
     matches!(told, Checked::Good(_))
 }
 
@@ -209,31 +213,34 @@ fn from_others(array: &Array, stripe: u64, bytes: &[u8], member: usize) -> Answe
     if !others(array, member).all(|other| is_good(array, stripe, bytes, other)) {
         return Err(9);
     }
-    let data = combine(others(array, member).map(|other| &bytes[span(other)]));
+    let format = array.format();
+    let blocks = others(array, member).map(|other| &bytes[format.span(other)]);
+    let data = combine(&format, blocks);
     let own = guard_of(array, &data);
-    let stored = stored_guards(bytes);
+    let stored = stored_guards(&format, bytes);
     let combined = combine_guards(others(array, member).map(|other| stored[other]));
     let guard = match array.method {
-        1 => own,
-        _ if is_combined(array, stripe, member) || combined == own => combined,
-        _ => return Err(9),
+        2 if is_combined(array, stripe, member) || combined == own => combined,
+        2 => return Err(9),
+        _ => own,
     };
     Ok(tagged(array, stripe, member, &data, guard))
 }
 
 pub fn check(array: &Array, stripe: u64, member: usize, block: &[u8]) -> Answer<Checked> {
     array.place_fits(stripe, member)?;
-    sized(block, BLOCK)?;
+    sized(block, array.format().block())?;
     Ok(told_of(array, stripe, member, block))
 }
 
 /// The whole stripe over `data`; `bytes` is where it goes.
 pub fn seal(array: &Array, stripe: u64, data: &[u8], bytes: &[u8]) -> Answer<Vec<u8>> {
     array.stripe_fits(stripe)?;
-    sized(data, array.data_members() * DATA)?;
-    sized(bytes, array.members * BLOCK)?;
-    let parity = combine(data.chunks(DATA));
-    let mut blocks = data.chunks(DATA);
+    let format = array.format();
+    sized(data, array.data_members() * format.data)?;
+    sized(bytes, array.stripe_length())?;
+    let parity = combine(&format, data.chunks(format.data));
+    let mut blocks = data.chunks(format.data);
     let mut whole = Vec::new();
     for (member, owner) in array.row(stripe).iter().enumerate() {
         let block = match owner {
@@ -241,7 +248,7 @@ pub fn seal(array: &Array, stripe: u64, data: &[u8], bytes: &[u8]) -> Answer<Vec
             Owner::Data { .. } => blocks.next().expect("a block for each data member"),
         };
         let guard = if is_combined(array, stripe, member) {
-            combine_guards(data.chunks(DATA).map(|data| guard_of(array, data)))
+            combine_guards(data.chunks(format.data).map(|data| guard_of(array, data)))
         } else {
             guard_of(array, block)
         };
@@ -253,15 +260,16 @@ pub fn seal(array: &Array, stripe: u64, data: &[u8], bytes: &[u8]) -> Answer<Vec
 /// What the block holds; `out` is where it goes.
 pub fn read(array: &Array, block: u64, bytes: &[u8], out: &[u8]) -> Answer<Read> {
     let place = array.place(block)?;
-    sized(bytes, array.members * BLOCK)?;
-    sized(out, DATA)?;
-    let own = &bytes[span(place.member)];
+    let format = array.format();
+    sized(bytes, array.stripe_length())?;
+    sized(out, format.data)?;
+    let own = &bytes[format.span(place.member)];
     let (source, data) = match told_of(array, place.stripe, place.member, own) {
-        Checked::Good(_) => (Source::Stored, own[..DATA].to_vec()),
-        Checked::Unchecked => (Source::Unchecked, own[..DATA].to_vec()),
+        Checked::Good(_) => (Source::Stored, own[..format.data].to_vec()),
+        Checked::Unchecked => (Source::Unchecked, own[..format.data].to_vec()),
         Checked::Bad(_) => {
             let block = from_others(array, place.stripe, bytes, place.member)?;
-            (Source::Rebuilt, block[..DATA].to_vec())
+            (Source::Rebuilt, block[..format.data].to_vec())
         }
     };
     Ok(Read { source, data })
@@ -270,18 +278,19 @@ pub fn read(array: &Array, block: u64, bytes: &[u8], out: &[u8]) -> Answer<Read>
 /// The stripe with one member made from the others.
 pub fn rebuild(array: &Array, stripe: u64, member: usize, bytes: &[u8]) -> Answer<Vec<u8>> {
     array.place_fits(stripe, member)?;
-    sized(bytes, array.members * BLOCK)?;
+    sized(bytes, array.stripe_length())?;
     let block = from_others(array, stripe, bytes, member)?;
     let mut whole = bytes.to_vec();
-    whole[span(member)].copy_from_slice(&block);
+    whole[array.format().span(member)].copy_from_slice(&block);
     Ok(whole)
 }
 
 /// The stripe with `data` for a block, and its parity brought along.
 pub fn update(array: &Array, block: u64, data: &[u8], bytes: &[u8]) -> Answer<Vec<u8>> {
     let place = array.place(block)?;
-    sized(data, DATA)?;
-    sized(bytes, array.members * BLOCK)?;
+    let format = array.format();
+    sized(data, format.data)?;
+    sized(bytes, array.stripe_length())?;
     let parity = array.parity_member(place.stripe);
     if ![place.member, parity]
         .iter()
@@ -289,25 +298,25 @@ pub fn update(array: &Array, block: u64, data: &[u8], bytes: &[u8]) -> Answer<Ve
     {
         return Err(9);
     }
-    let old = [&bytes[span(parity)], &bytes[span(place.member)], data];
-    let sum = combine(old.into_iter());
+    let [old_parity, old] = [parity, place.member].map(|member| &bytes[format.span(member)]);
+    let sum = combine(&format, [old_parity, old, data].into_iter());
     let new = guard_of(array, data);
-    let stored = stored_guards(bytes);
+    let stored = stored_guards(&format, bytes);
     let sum_guard = match array.method {
-        1 => guard_of(array, &sum),
-        _ => combine_guards([stored[parity], stored[place.member], new]),
+        2 => combine_guards([stored[parity], stored[place.member], new]),
+        _ => guard_of(array, &sum),
     };
     let mut whole = bytes.to_vec();
     for (member, data, guard) in [(place.member, data, new), (parity, &sum, sum_guard)] {
         let block = tagged(array, place.stripe, member, data, guard);
-        whole[span(member)].copy_from_slice(&block);
+        whole[format.span(member)].copy_from_slice(&block);
     }
     Ok(whole)
 }
 
 /// The verdict on members of which this is said, on what their data combine to, and on their stored guards: bad ones go first, then unchecked ones,
 /// then the data, and last, by method 2, the guards.
-pub fn verdict(method: u8, members: &[Checked], sum: &[u8], guards: &[u16]) -> Verdict {
+pub fn verdict(method: u8, members: &[Checked], sum: &[u8], guards: &[u32]) -> Verdict {
     let (mut bad, mut unchecked) = (Vec::new(), Vec::new());
     for (member, told) in members.iter().enumerate() {
         match told {
@@ -332,33 +341,35 @@ pub fn verdict(method: u8, members: &[Checked], sum: &[u8], guards: &[u16]) -> V
         return Verdict::Torn { place };
     }
     if method == 2 && combine_guards(guards.iter().copied()) != 0 {
-        return Verdict::Torn { place: DATA };
+        return Verdict::Torn { place: sum.len() };
     }
     Verdict::Clean
 }
 
 pub fn scrub(array: &Array, stripe: u64, bytes: &[u8]) -> Answer<Verdict> {
     array.stripe_fits(stripe)?;
-    sized(bytes, array.members * BLOCK)?;
+    sized(bytes, array.stripe_length())?;
+    let format = array.format();
     let members: Vec<Checked> = (0..array.members)
-        .map(|member| told_of(array, stripe, member, &bytes[span(member)]))
+        .map(|member| told_of(array, stripe, member, &bytes[format.span(member)]))
         .collect();
-    let sum = combine(bytes.chunks(BLOCK));
-    Ok(verdict(array.method, &members, &sum, &stored_guards(bytes)))
+    let sum = combine(&format, bytes.chunks(format.block()));
+    let guards = stored_guards(&format, bytes);
+    Ok(verdict(array.method, &members, &sum, &guards))
 }
 
-/// What the guards combine to: they fit where that is zero.
+/// What guards of sixteen bits combine to: they fit where that is zero.
 pub fn quick_scrub(guards: &[u16]) -> Answer<u16> {
     if !(3..=16).contains(&guards.len()) {
         return Err(1);
     }
-    Ok(combine_guards(guards.iter().copied()))
+    Ok(guards.iter().fold(0, |sum, guard| sum ^ guard))
 }
 
 /// The guards that stand in the blocks' tags.
-pub fn stored_guards(bytes: &[u8]) -> Vec<u16> {
+pub fn stored_guards(format: &Format, bytes: &[u8]) -> Vec<u32> {
     bytes
-        .chunks(BLOCK)
-        .map(|block| u16::from_be_bytes([block[512], block[513]]))
+        .chunks(format.block())
+        .map(|block| guard_in(format, &block[format.data..]))
         .collect()
 }

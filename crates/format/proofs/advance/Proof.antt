@@ -6,7 +6,7 @@ use Rattle.checksum.specs.declared.Register.{Register}
 use Rattle.format.specs.Formats.{Format}
 use Rattle.format.specs.Methods.{formatOf}
 use Rattle.format.specs.Packed.{packed}
-use Rattle.format.proofs.Laws.{of-two, of-other}
+use Rattle.format.proofs.Laws.{of-two, of-three, of-other}
 use Rattle.format.proofs.Past.{stays, run-cut, packed-cut}
 use Rattle.format.proofs.advance.Statement.{statement}
 use Rattle.format.proofs.advance.Tie as tie
@@ -31,6 +31,15 @@ returns-2 c =
     ∙ packed-cut (a .at) (a .register) (a .bytes .now) (p .before .if1 .left)
     ∙ sym (ap (λ (F : Format). F .advance (a .at) (a .register) (a .bytes .now)) (of-two _ (p .if2 .taken)))
 
+advance-requires-2 : tie.Need-advance-requires-2
+advance-requires-2 c κs = search needs
+
+returns-3 : tie.Need-returns-3
+returns-3 c =
+    let p = c .before in
+    let a = p .before .before .before .before .args in
+    c .advance2 .ensures ∙ sym (ap (λ (F : Format). F .advance (a .at) (a .register) (a .bytes .now)) (of-three _ (p .if3 .taken)))
+
 cast-run : tie.Need-cast-run
 cast-run c = search needs
 
@@ -40,12 +49,13 @@ run-requires c κs = search needs
 cast-result : tie.Need-cast-result
 cast-result c = search needs
 
-returns-3 : tie.Need-returns-3
-returns-3 c =
-    let p = c .before in
+returns-4 : tie.Need-returns-4
+returns-4 c =
+    let q = c .before in
+    let p = q .before in
     let a = p .before .before .before .args in
     c .run .ensures ∙ run-cut (a .register) (a .bytes .now) (p .before .if1 .left)
-    ∙ sym (ap (λ (F : Format). F .advance (a .at) (a .register) (a .bytes .now)) (of-other _ (p .if2 .left)))
+    ∙ sym (ap (λ (F : Format). F .advance (a .at) (a .register) (a .bytes .now)) (of-other _ (p .if2 .left) (q .if3 .left)))
 
 pub advance-spec : {M : Type 1} → statement M
 advance-spec =
@@ -56,7 +66,9 @@ advance-spec =
     advance-requires
     packed-requires
     returns-2
+    advance-requires-2
+    returns-3
     cast-run
     run-requires
     cast-result
-    returns-3)
+    returns-4)

@@ -1,11 +1,15 @@
 -- `format::data_length` meets its contract. Assumes nothing.
-use mathlib.Core.Path.{_≡_, refl}
-use Rattle.format.proofs.Laws.{of-both}
+use mathlib.Core.Path.{_≡_, refl, sym, ap}
+use Rattle.format.specs.Formats.{Format}
+use Rattle.format.proofs.Laws.{of-three, of-small}
 use Rattle.format.proofs.data_length.Statement.{statement}
 use Rattle.format.proofs.data_length.Tie as tie
 
 returns : tie.Need-returns
-returns c = of-both (λ F. 512 ≡ F .dataLength) refl refl (c .args .method)
+returns c = sym (ap (λ (F : Format). F .dataLength) (of-three _ (c .if1 .taken)))
+
+returns-2 : tie.Need-returns-2
+returns-2 c = of-small (λ F. 512 ≡ F .dataLength) refl refl (c .before .args .method) (c .if1 .left)
 
 pub data-length-spec : {M : Type 1} → statement M
-data-length-spec = tie.close (tie.spec returns)
+data-length-spec = tie.close (tie.spec returns returns-2)

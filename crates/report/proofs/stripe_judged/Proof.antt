@@ -15,8 +15,8 @@ count-one-requires c κs = search needs
 add-next : tie.Need-add-next
 add-next c = search needs
 
-start-requires : tie.Need-start-requires
-start-requires c κs = search needs
+begin-requires : tie.Need-begin-requires
+begin-requires c κs = search needs
 
 entering-requires : tie.Need-entering-requires
 entering-requires c κs = search needs
@@ -29,14 +29,14 @@ same-length-2 c = search needs
 
 returns : tie.Need-returns
 returns c =
-    let begun = c .before .before .before .before in
+    let begun = c .before .before .before in
     let i = begun .before .before in
     let counts = i .before in
     let line = counts .before .before .before in
     let start = line .before .before .before .before .before .before .before in
     let a = start .args in
     next-begins (a .used) (a .report) (a .work .now) (verdictNumbers (a .verdict)) (written-whole (start .pre .0) (line .stripe-line .ensures))
-    (counts .count-one .ensures) (i .if1 .taken) (begun .start .ensures .1 .0) (begun .start .ensures .1 .1) (c .entering .ensures)
+    (counts .count-one .ensures) (i .if1 .taken) (begun .begin .ensures .0) (begun .begin .ensures .1) (c .entering .ensures)
 
 entering-requires-2 : tie.Need-entering-requires-2
 entering-requires-2 c κs = search needs
@@ -61,7 +61,7 @@ stripe-judged-spec =
     stripe-line-requires
     count-one-requires
     add-next
-    start-requires
+    begin-requires
     entering-requires
     same-length
     same-length-2

@@ -5,8 +5,8 @@ use Rattle.report.proofs.StripeSteps.{not-judged, judged-by}
 use Rattle.report.proofs.stripe_whole.Statement.{statement}
 use Rattle.report.proofs.stripe_whole.Tie as tie
 
-finish-requires : tie.Need-finish-requires
-finish-requires c κs = search needs
+judge-requires : tie.Need-judge-requires
+judge-requires c κs = search needs
 
 enum-known-answer : tie.Need-enum-known-answer
 enum-known-answer c = search needs
@@ -36,7 +36,7 @@ returns c =
     let asked = told .before .before in
     let start = asked .before .before .before .before .before in
     let a = start .args in
-    not-judged (a .used) (a .report) (a .work .now) (asked .finish .ensures) (told .answer .given .1)
+    not-judged (a .used) (a .report) (a .work .now) (asked .judge .ensures) (told .answer .given .1)
     (written-whole (start .pre .0) (line .refused-line .ensures)) (c .ended .ensures)
 
 same-length-3 : tie.Need-same-length-3
@@ -51,13 +51,13 @@ returns-2 c =
     let told = judged .before .before .before .before in
     let asked = told .before .before in
     let a = asked .before .before .before .before .before .args in
-    judged-by (a .used) (a .report) (a .work .now) (asked .finish .ensures) (told .answer2 .given .1) (judged .stripe-judged .ensures)
+    judged-by (a .used) (a .report) (a .work .now) (asked .judge .ensures) (told .answer2 .given .1) (judged .stripe-judged .ensures)
 
 pub stripe-whole-spec : {M : Type 1} → statement M
 stripe-whole-spec =
     tie.close
     (tie.spec
-    finish-requires
+    judge-requires
     enum-known-answer
     refused-line-requires
     ended-requires

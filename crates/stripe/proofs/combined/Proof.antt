@@ -6,6 +6,7 @@ use Prim.Native.Nat.{ℕ, _+_, _-_, _%_, _≤_}
 use native.Mathlib.Omega.{arith}
 use lib.ListN.{length}
 use lib.Seq.{sets, length-sets}
+use Rattle.format.specs.Formats.{pieceLength}
 use Rattle.format.specs.Methods.{formatOf}
 use Rattle.stripe.specs.Tables.{span}
 use Rattle.stripe.specs.Stripes.{othersData}
@@ -17,13 +18,13 @@ use Rattle.stripe.proofs.combined.Tie as tie
 
 abbrev Inv-loop : tie.InvT-loop
 Inv-loop method bytes members skip from out₀ to at₀ out at =
-    (at ≤ 512) × (at % 128 ≡ 0) × (out ≡ sets out₀ to (span from at (othersData (formatOf method) members skip bytes)))
+    (at ≤ pieceLength) × (at % 128 ≡ 0) × (out ≡ sets out₀ to (span from at (othersData (formatOf method) members skip bytes)))
 
 abbrev μ-loop : tie.MeasureT-loop
-μ-loop method bytes members skip from out₀ to at₀ out at = 512 - at
+μ-loop method bytes members skip from out₀ to at₀ out at = pieceLength - at
 
 -- the row at hand lies within the piece
-fits : (c : tie.In-loop Inv-loop μ-loop) → c .before .loop .at + 128 ≤ 512
+fits : (c : tie.In-loop Inv-loop μ-loop) → c .before .loop .at + 128 ≤ pieceLength
 fits c = omega arith
 
 loop-holds : tie.Need-loop-holds Inv-loop μ-loop
@@ -78,7 +79,7 @@ returns : tie.Need-returns Inv-loop μ-loop
 returns c =
     let at = c .before .loop in
     let a = c .before .before .before .before .args in
-    let all : at .at ≡ 512 = omega (arith, at .inv .0) in
+    let all : at .at ≡ pieceLength = omega (arith, at .inv .0) in
     at .inv .2 ∙ ap (λ (k : ℕ). sets (a .out .now) (a .to) (span (a .from) k (othersData (formatOf (a .method)) (a .members) (a .skip) (a .bytes .now)))) all
 
 pub combined-spec : {M : Type 1} → statement M

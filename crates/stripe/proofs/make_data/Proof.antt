@@ -6,6 +6,7 @@ use Prim.Native.Nat.{ℕ, _+_, _-_, _*_, _%_, _≤_}
 use native.Mathlib.Omega.{arith}
 use lib.ListN.{length}
 use lib.Seq.{sets, length-sets}
+use Rattle.format.specs.Formats.{pieceLength}
 use Rattle.format.specs.Methods.{formatOf}
 use Rattle.format.proofs.Sizes.{times-next}
 use Rattle.stripe.specs.Tables.{span}
@@ -18,14 +19,14 @@ use Rattle.stripe.proofs.make_data.Tie as tie
 
 abbrev Inv-loop : tie.InvT-loop
 Inv-loop method members member bytes₀ «data» to piece₀ from₀ bytes piece from =
-    (from ≤ formatOf method .dataLength) × (from % 512 ≡ 0) × (length piece ≡ 512)
+    (from ≤ formatOf method .dataLength) × (from % pieceLength ≡ 0) × (length piece ≡ pieceLength)
     × (bytes ≡ sets bytes₀ (formatOf method .blockLength * member) (span 0 from (othersData (formatOf method) members member bytes₀)))
 
 abbrev μ-loop : tie.MeasureT-loop
 μ-loop method members member bytes₀ «data» to piece₀ from₀ bytes piece from = formatOf method .dataLength - from
 
 -- the piece at hand lies within the data
-fits : (c : tie.In-loop Inv-loop μ-loop) → c .before .loop .from + 512 ≤ formatOf (c .before .before .before .before .before .args .method) .dataLength
+fits : (c : tie.In-loop Inv-loop μ-loop) → c .before .loop .from + pieceLength ≤ formatOf (c .before .before .before .before .before .args .method) .dataLength
 fits c = let F = formatOf (c .before .before .before .before .before .args .method) in omega (arith, F .data-pieces)
 
 -- and the stripe is as long as it was
@@ -91,19 +92,19 @@ loop-again c =
     let F = formatOf (a .method) in
     let whole = othersData F (a .members) (a .member) (a .bytes .now) in
     let long = length-othersData F (a .members) (a .member) (a .bytes .now) in
-    let room : at .from + 512 ≤ length whole = omega (arith, fits i, long) in
+    let room : at .from + pieceLength ≤ length whole = omega (arith, fits i, long) in
     let piece = k .combined .last .1 .1 .1 .1 .1 .0 in
-    let made : piece ≡ span (at .from) 512 whole =
+    let made : piece ≡ span (at .from) pieceLength whole =
     k .combined .ensures
-    ∙ ap (λ (l : List ℕ). sets (at .piece) 0 (span (at .from) 512 l)) (others-same F (a .members) (a .member) (at .from) (a .bytes .now) (at .bytes) (at .inv .0) (at .inv .3))
+    ∙ ap (λ (l : List ℕ). sets (at .piece) 0 (span (at .from) pieceLength l)) (others-same F (a .members) (a .member) (at .from) (a .bytes .now) (at .bytes) (at .inv .0) (at .inv .3))
     ∙ piece-whole whole (at .piece) (at .from) (at .inv .2) room in (
       fits i,
       omega (arith, at .inv .1),
-      ap length made ∙ length-span (at .from) 512 whole room,
+      ap length made ∙ length-span (at .from) pieceLength whole room,
       p .put .ensures
           ∙ ap₂ (λ (l : List ℕ) (to : ℕ). sets l (to + at .from) piece) (at .inv .3) (b .block-at .ensures)
           ∙ ap (sets (sets (a .bytes .now) (F .blockLength * a .member) (span 0 (at .from) whole)) (F .blockLength * a .member + at .from)) made
-          ∙ put-next whole (a .bytes .now) (F .blockLength * a .member) (at .from) 512 (omega (arith, at .inv .0, long)),
+          ∙ put-next whole (a .bytes .now) (F .blockLength * a .member) (at .from) pieceLength (omega (arith, at .inv .0, long)),
     )
 
 same-length : tie.Need-same-length Inv-loop μ-loop

@@ -4,6 +4,7 @@ use mathlib.Core.Path.{ap, _∙_}
 use native.Mathlib.Omega.{arith}
 use Rattle.format.specs.Formats.{guard}
 use Rattle.tag.specs.Blocks.{formatAt}
+use Rattle.stripe.proofs.Checked.{stands-there}
 use Rattle.stripe.proofs.Served.{lent-data}
 use borrow.Author.Needs.{needs}
 use Rattle.stripe.proofs.standing.Statement.{statement}
@@ -33,17 +34,22 @@ guard-requires c κs = search needs
 parity-member-requires : tie.Need-parity-member-requires
 parity-member-requires c κs = search needs
 
+stored-requires : tie.Need-stored-requires
+stored-requires c κs = search needs
+
 standing-by-requires : tie.Need-standing-by-requires
-standing-by-requires c κs =
-    let g = c .before in
-    let l = g .before .before in
-    let b = l .before in
-    let s = b .before .before in
-    let a = s .args in
-    (s .pre .0, (s .pre .1, (g .guard .ensures ∙ ap (guard (formatAt (a .array))) (lent-data (formatAt (a .array)) (a .member) (b .block-at .result) (l .data-length .result) (a .bytes .now) (b .block-at .ensures) (l .data-length .ensures)), c .parity-member .ensures)))
+standing-by-requires c κs = search needs
 
 returns : tie.Need-returns
-returns c = search needs
+returns c =
+    let f = c .before in
+    let g = f .before .before in
+    let l = g .before .before in
+    let b = l .before in
+    let a = b .before .before .args in
+    let F = formatAt (a .array) in
+    let own = g .guard .ensures ∙ ap (guard F) (lent-data F (a .member) (b .block-at .result) (l .data-length .result) (a .bytes .now) (b .block-at .ensures) (l .data-length .ensures)) in
+    stands-there (a .array) (a .stripe) (a .member) (g .guard .result) (c .standing-by .result) (a .bytes .now) (f .stored .result) (f .stored .ensures) own (c .standing-by .ensures)
 
 pub standing-spec : {M : Type 1} → statement M
 standing-spec =
@@ -57,5 +63,6 @@ standing-spec =
     part-guard-end
     guard-requires
     parity-member-requires
+    stored-requires
     standing-by-requires
     returns)

@@ -26,8 +26,15 @@ owner-beside-requires c κs = search needs
 due-to-requires : tie.Need-due-to-requires
 due-to-requires c κs = search needs
 
+quarter-requires : tie.Need-quarter-requires
+quarter-requires c κs = search needs
+
 write-requires : tie.Need-write-requires
-write-requires c κs = search needs
+write-requires c κs =
+    let l = c .before .before .before .before in
+    let b = l .before in
+    let F = formatAt (b .before .before .args .array) in
+    (omega (arith, F .block-parts, F .tag-quarters, b .block-at .ensures, l .data-length .ensures, c .quarter .ensures), omega (arith, F .quarter-most, c .quarter .ensures))
 
 same-length : tie.Need-same-length
 same-length c = search needs
@@ -35,7 +42,8 @@ same-length c = search needs
 returns : tie.Need-returns
 returns c =
     let w = c .before .before in
-    let d = w .before .before in
+    let q = w .before in
+    let d = q .before .before in
     let o = d .before in
     let l = o .before in
     let b = l .before in
@@ -43,8 +51,9 @@ returns c =
     let a = s .args in
     let owner = o .owner-beside .ensures ∙ beside-right (a .array) (a .stripe) (a .parity) (a .member) (s .pre .1 .1) in
     let due = d .due-to .ensures ∙ due-told (a .array) (a .stripe) (a .member) (a .guard) (a .guard) (o .owner-beside .result) owner (a .guard) refl refl in
-    tag-in-place (a .array) (a .stripe) (a .member) (a .guard) (b .block-at .result + l .data-length .result) (d .due-to .result) (a .bytes .now) (w .write .last .1 .1 .0)
-    (s .pre .0) (s .pre .1 .0) due (ap₂ (λ (x y : ℕ). x + y) (b .block-at .ensures) (l .data-length .ensures)) (w .write .ensures)
+    tag-in-place (a .array) (a .stripe) (a .member) (a .guard) (b .block-at .result + l .data-length .result) (d .due-to .result) (a .bytes .now) (w .write .last .1 .0)
+    (s .pre .0) (s .pre .1 .0) due (ap₂ (λ (x y : ℕ). x + y) (b .block-at .ensures) (l .data-length .ensures))
+    (q .quarter .result) (q .quarter .ensures) (w .write .ensures)
 
 pub write-tag-spec : {M : Type 1} → statement M
 write-tag-spec =
@@ -55,6 +64,7 @@ write-tag-spec =
     add-to
     owner-beside-requires
     due-to-requires
+    quarter-requires
     write-requires
     same-length
     returns)

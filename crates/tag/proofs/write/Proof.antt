@@ -1,29 +1,8 @@
--- `tag::write` meets its contract.
--- Assumes nothing.
-use native.Mathlib.Omega.{arith}
-use Rattle.format.specs.Methods.{formatOf}
-use Rattle.tag.proofs.Within.{written-outside, written-at-once, written-by-calls}
+-- `tag::write` meets its contract. Assumes nothing.
+use Rattle.tag.proofs.Within.{written-at-once, written-by-fields}
 use borrow.Author.Needs.{needs}
 use Rattle.tag.proofs.write.Statement.{statement}
 use Rattle.tag.proofs.write.Tie as tie
-
-tag-length-requires : tie.Need-tag-length-requires
-tag-length-requires c κs = search needs
-
-quarter-requires : tie.Need-quarter-requires
-quarter-requires c κs = search needs
-
-returns : tie.Need-returns
-returns c =
-    let a = c .before .before .before .before .args in
-    let F = formatOf (a .method) in
-    written-outside F (a .bytes .now) (a .at) (a .fields) (omega arith)
-
-returns-2 : tie.Need-returns-2
-returns-2 c =
-    let a = c .before .before .before .before .before .args in
-    let F = formatOf (a .method) in
-    written-outside F (a .bytes .now) (a .at) (a .fields) (omega arith)
 
 eight-bytes-requires : tie.Need-eight-bytes-requires
 eight-bytes-requires c κs = search needs
@@ -37,61 +16,54 @@ put-requires c κs = search needs
 same-length : tie.Need-same-length
 same-length c = search needs
 
-returns-3 : tie.Need-returns-3
-returns-3 c =
+returns : tie.Need-returns
+returns c =
     let once = c .before .before in
     let whole = once .before .before .before in
-    let q = whole .before .before .before .before in
-    let a = q .before .before .before .args in
-    let F = formatOf (a .method) in
-    written-at-once F (a .bytes .now) (a .at) (omega arith) (a .fields) (whole .eight-bytes .result) (once .put .last .0) (omega arith)
+    let i = whole .before in
+    let a = i .before .before .args in
+    written-at-once (a .bytes .now) (a .at) (a .quarter) (a .fields) (i .if1 .taken) (whole .eight-bytes .result) (once .put .last .0)
     (whole .eight-bytes .ensures) (once .put .ensures)
 
 add-second : tie.Need-add-second
-add-second c = let F = formatOf (c .before .before .before .before .before .before .args .method) in omega arith
+add-second c = search needs
 
 mul-half : tie.Need-mul-half
-mul-half c = let F = formatOf (c .before .before .before .before .before .before .args .method) in omega arith
+mul-half c = search needs
 
 add-third : tie.Need-add-third
-add-third c = let F = formatOf (c .before .before .before .before .before .before .args .method) in omega arith
+add-third c = search needs
 
 put-number-requires : tie.Need-put-number-requires
-put-number-requires c κs = let F = formatOf (c .before .before .before .before .before .before .before .args .method) in (omega arith, omega arith)
+put-number-requires c κs = search needs
 
 put-number-requires-2 : tie.Need-put-number-requires-2
-put-number-requires-2 c κs = let F = formatOf (c .before .before .before .before .before .before .before .before .before .before .before .args .method) in (omega arith, omega arith)
+put-number-requires-2 c κs = search needs
 
 put-number-requires-3 : tie.Need-put-number-requires-3
-put-number-requires-3 c κs = let F = formatOf (c .before .before .before .before .before .before .before .before .before .before .before .before .before .before .before .args .method) in (omega arith, omega arith)
+put-number-requires-3 c κs = search needs
 
 same-length-2 : tie.Need-same-length-2
 same-length-2 c = search needs
 
-returns-4 : tie.Need-returns-4
-returns-4 c =
+returns-2 : tie.Need-returns-2
+returns-2 c =
     let third = c .before .before in
     let second = third .before .before .before .before in
     let first = second .before .before .before .before in
-    let q = first .before .before .before .before .before in
-    let a = q .before .before .before .args in
-    let F = formatOf (a .method) in
-    written-by-calls F (a .bytes .now) (a .at) (q .quarter .result) (q .quarter .ensures) (a .fields) (first .put-number .last .0) (second .put-number2 .last .0) (third .put-number3 .last .0)
-    (omega arith) (first .put-number .ensures) (second .put-number2 .ensures) (third .put-number3 .ensures)
+    let a = first .before .before .before .before .args in
+    written-by-fields (a .bytes .now) (a .at) (a .quarter) (a .fields) (first .put-number .last .0) (second .put-number2 .last .0) (third .put-number3 .last .0)
+    (first .put-number .ensures) (second .put-number2 .ensures) (third .put-number3 .ensures)
 
 pub write-spec : {M : Type 1} → statement M
 write-spec =
     tie.close
     (tie.spec
-    tag-length-requires
-    quarter-requires
-    returns
-    returns-2
     eight-bytes-requires
     slice-aggregate-put
     put-requires
     same-length
-    returns-3
+    returns
     add-second
     mul-half
     add-third
@@ -99,4 +71,4 @@ write-spec =
     put-number-requires-2
     put-number-requires-3
     same-length-2
-    returns-4)
+    returns-2)

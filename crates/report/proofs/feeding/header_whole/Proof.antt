@@ -40,8 +40,8 @@ array-in-requires c κs = search needs
 first-line-requires : tie.Need-first-line-requires
 first-line-requires c κs = search needs
 
-start-requires : tie.Need-start-requires
-start-requires c κs = search needs
+begin-requires : tie.Need-begin-requires
+begin-requires c κs = search needs
 
 entering-requires : tie.Need-entering-requires
 entering-requires c κs = search needs
@@ -54,16 +54,16 @@ same-length-3 c = search needs
 
 returns-2 : tie.Need-returns-2
 returns-2 c =
-    let b = c .before .before .before .before in
+    let b = c .before .before .before in
     let l = b .before .before .before .before in
     let i = l .before .before .before in
     let h = i .before in
     let start = h .before .before .before .before in
     let a = start .args in
     header-accepted (a .used) (a .report) (a .work .now) (a .out .now) _ (h .header-refusal .result) (l .first-line .result) (c .entering .result)
-    (h .header-refusal .ensures) (l .before .before .array-in .result) (b .start .result .state) _ (long start)
+    (h .header-refusal .ensures) (l .before .before .array-in .result) (b .begin .result) _ (long start)
     (i .if1 .left) (l .before .before .array-in .ensures) (written-whole (start .pre) (l .first-line .ensures))
-    (b .start .ensures .1 .0) (b .start .ensures .1 .1) (c .entering .ensures)
+    (b .begin .ensures .0) (b .begin .ensures .1) (c .entering .ensures)
 
 pub header-whole-spec : {M : Type 1} → statement M
 header-whole-spec =
@@ -76,7 +76,7 @@ header-whole-spec =
     returns
     array-in-requires
     first-line-requires
-    start-requires
+    begin-requires
     entering-requires
     same-length-2
     same-length-3

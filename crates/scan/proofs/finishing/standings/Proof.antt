@@ -1,10 +1,12 @@
 -- `scan::finishing::standings` meets its contract. The invariant: the members passed are told as they stand. Assumes nothing.
-use mathlib.Core.Path.{_≡_, refl, ap, _∙_}
+use mathlib.Core.Path.{_≡_, refl, ap, _∙_, subst}
+use mathlib.Core.List.{List}
 use Prim.Native.Nat.{ℕ, _-_, _≤_, _<_}
 use native.Mathlib.Omega.{arith}
 use borrow.Author.Needs.{needs}
 use lib.ListN.{length, getD, take, length-set}
 use Rattle.format.specs.Formats.{registerFrom}
+use Rattle.format.proofs.Laws.{kept-small}
 use Rattle.layout.proofs.Ranges.{stripe-sound, sound-place}
 use Rattle.tag.specs.Blocks.{formatAt}
 use Rattle.stripe.specs.Tables.{table}
@@ -15,12 +17,12 @@ use Rattle.scan.proofs.finishing.standings.Statement.{statement}
 use Rattle.scan.proofs.finishing.standings.Tie as tie
 
 abbrev Inv-loop : tie.InvT-loop
-Inv-loop array stripe values waiting tags members method parity standing₀ member₀ standing member =
+Inv-loop tags array stripe values waiting members method parity standing₀ member₀ standing member =
     (member ≤ array .members) × (length standing ≡ 16)
     × (take member standing ≡ table member (λ m. heldStanding array stripe m (registerFrom (formatAt array) (getD values m 0) (getD waiting m 0)) tags))
 
 abbrev μ-loop : tie.MeasureT-loop
-μ-loop array stripe values waiting tags members method parity standing₀ member₀ standing member = members - member
+μ-loop tags array stripe values waiting members method parity standing₀ member₀ standing member = members - member
 
 parity-member-requires : tie.Need-parity-member-requires Inv-loop μ-loop
 parity-member-requires c κs = search needs
@@ -30,7 +32,7 @@ loop-holds c = (omega arith, refl, refl)
 
 -- the members are at most sixteen
 few : (c : tie.In-loop Inv-loop μ-loop) → c .before .before .before .before .before .before .before .args .state .array .members ≤ 16
-few c = let s = c .before .before .before .before .before .before .before in stripe-sound (s .args .state .array) (s .args .state .stripe) (s .pre) .array .many
+few c = let s = c .before .before .before .before .before .before .before in s .pre .1 .1 .few
 
 mul-register-of : tie.Need-mul-register-of Inv-loop μ-loop
 mul-register-of c = omega (arith, few c)
@@ -44,20 +46,26 @@ array-read-register-of-2 c = omega (arith, few c)
 register-of-requires : tie.Need-register-of-requires Inv-loop μ-loop
 register-of-requires c κs = search needs
 
-slice-aggregate-standing : tie.Need-slice-aggregate-standing Inv-loop μ-loop
-slice-aggregate-standing c = search needs
+cast-standing : tie.Need-cast-standing Inv-loop μ-loop
+cast-standing c =
+    let s = c .before .before .before .before .before .before .before .before in
+    let a = s .args .state in
+    let m = c .before .before .loop .member in
+    let here : m < a .array .members = omega arith in
+    let small = kept-small (a .array .method) (getD (a .at) m 0) (getD (a .register) m 0) (getD (a .waiting) m 0) (s .pre .1 .1 .narrow m here) (c .register-of .ensures .1) (s .pre .1 .1 .alone m here) in
+    omega (arith, c .register-of .ensures .0, small)
 
 standing-requires : tie.Need-standing-requires Inv-loop μ-loop
 standing-requires c κs =
-    let p = c .before .before .before .before in
-    let s = c .before .before .before .before .before .before .before .before .before in
+    let l = c .before .before in
+    let s = l .before .before .before .before .before .before in
     let a = s .args .state in (
-      sound-place (a .array) (a .stripe) (c .before .before .before .loop .member) record { stripe = stripe-sound (a .array) (a .stripe) (s .pre); here = omega arith },
-      (search needs, p .parity-member .ensures),
+      sound-place (a .array) (a .stripe) (l .loop .member) record { stripe = stripe-sound (a .array) (a .stripe) (s .pre .1 .1 .numbers); here = omega arith },
+      (s .pre .1 .0, l .before .parity-member .ensures),
     )
 
 array-write-standing : tie.Need-array-write-standing Inv-loop μ-loop
-array-write-standing c = omega (arith, few (c .before .before .before))
+array-write-standing c = omega (arith, few (c .before .before))
 
 add-member : tie.Need-add-member Inv-loop μ-loop
 add-member c = search needs
@@ -67,21 +75,27 @@ loop-less c = search needs
 
 loop-again : tie.Need-loop-again Inv-loop μ-loop
 loop-again c =
-    let r = c .before .before in
+    let r = c .before in
     let at = r .before .before .loop in
-    let a = r .before .before .before .before .before .before .before .before .args .state in
+    let s = r .before .before .before .before .before .before .before .before in
+    let a = s .args .state in
+    let tags = s .args .tags .now in
     let F = formatAt (a .array) in
     let room : at .member < length (at .standing) = omega (arith, few (r .before), at .inv .1) in (
       omega arith,
       length-set (at .standing) (at .member) (c .standing .result) ∙ at .inv .1,
-      table-filled (at .standing) (λ m. heldStanding (a .array) (a .stripe) m (registerFrom F (getD (a .register) m 0) (getD (a .waiting) m 0)) (a .tag)) (at .member) (c .standing .result) room (at .inv .2)
-          (c .standing .ensures ∙ ap (λ (x : ℕ). heldStanding (a .array) (a .stripe) (at .member) x (a .tag)) (r .register-of .ensures)),
+      table-filled (at .standing) (λ m. heldStanding (a .array) (a .stripe) m (registerFrom F (getD (a .register) m 0) (getD (a .waiting) m 0)) tags) (at .member) (c .standing .result) room (at .inv .2)
+          (c .standing .ensures ∙ ap (λ (x : ℕ). heldStanding (a .array) (a .stripe) (at .member) x tags) (r .register-of .ensures .0)),
     )
 
 returns : tie.Need-returns Inv-loop μ-loop
 returns c =
     let at = c .before .loop in
-    held-all (c .before .before .before .before .before .before .before .args .state) (at .standing) (at .member) (omega (arith, at .inv .0)) (at .inv .2)
+    let s = c .before .before .before .before .before .before .before in
+    let a = s .args .state in
+    held-all a (at .standing) (at .member) (omega (arith, at .inv .0))
+    (subst (λ (tags : List ℕ). take (at .member) (at .standing) ≡ table (at .member) (λ m. heldStanding (a .array) (a .stripe) m (registerFrom (formatAt (a .array)) (getD (a .register) m 0) (getD (a .waiting) m 0)) tags))
+    (s .pre .0) (at .inv .2))
 
 pub standings-spec : {M : Type 1} → statement M
 standings-spec =
@@ -95,7 +109,7 @@ standings-spec =
     array-read-register-of
     array-read-register-of-2
     register-of-requires
-    slice-aggregate-standing
+    cast-standing
     standing-requires
     array-write-standing
     add-member

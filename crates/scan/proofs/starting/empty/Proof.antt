@@ -1,11 +1,9 @@
 -- `scan::starting::empty` meets its contract.
 -- Assumes nothing.
-use mathlib.Core.Path.{ap, _∙_}
+use mathlib.Core.Path.{ap}
 use Prim.Native.Nat.{ℕ}
-use native.Mathlib.Omega.{arith}
 use lib.ListN.{replicate}
 use Rattle.format.specs.Formats.{mostTags}
-use Rattle.format.proofs.Laws.{start-narrow}
 use Rattle.scan.specs.Scans.{emptyScan}
 use borrow.Author.Needs.{needs}
 use Rattle.scan.proofs.starting.empty.Statement.{statement}
@@ -14,9 +12,6 @@ use Rattle.scan.proofs.starting.empty.Tie as tie
 start-requires : tie.Need-start-requires
 start-requires c κs = search needs
 
-cast-first : tie.Need-cast-first
-cast-first c = omega (arith, c .start .ensures, start-narrow (c .before .args .array .method))
-
 returns : tie.Need-returns
 unfolding emptyScan
 returns c =
@@ -24,4 +19,4 @@ returns c =
     ap (λ (x : ℕ). record { array = a .array; stripe = a .stripe; at = replicate 16 0; register = replicate 16 x; waiting = replicate 16 0; tag = replicate mostTags 0 }) (c .start .ensures)
 
 pub empty-spec : {M : Type 1} → statement M
-empty-spec = tie.close (tie.spec start-requires cast-first returns)
+empty-spec = tie.close (tie.spec start-requires returns)

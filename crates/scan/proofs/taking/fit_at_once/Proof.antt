@@ -1,11 +1,13 @@
--- `scan::taking::fit_at_once` is `fit`: of all sixteen together, else by the members one by one. Assumes nothing.
+-- `scan::taking::fit_at_once` is `fit`, of the parts of a state: of all sixteen together, else by the members one by one. Assumes nothing.
 use mathlib.Core.Path.{_≡_, ap, _∙_}
+use mathlib.Core.List.{[]}
 use Prim.Native.Nat.{ℕ}
 use native.Mathlib.Omega.{arith}
 use lib.Dec.{eqb}
-use lib.ListN.{length}
 use Rattle.format.proofs.Sizes.{block-most}
 use Rattle.tag.specs.Blocks.{formatAt}
+use Rattle.scan.specs.declared.Scan.{Scan}
+use Rattle.scan.specs.Scans.{fit}
 use Rattle.scan.proofs.Fitness.{fit-told}
 use borrow.Author.Needs.{needs}
 use Rattle.scan.proofs.taking.fit_at_once.Statement.{statement}
@@ -15,10 +17,16 @@ block-length-requires : tie.Need-block-length-requires
 block-length-requires c κs = search needs
 
 cast-end : tie.Need-cast-end
-cast-end c = omega (arith, c .block-length .ensures, block-most (formatAt (c .before .before .before .before .args .state .array)))
+cast-end c = omega (arith, c .block-length .ensures, block-most (formatAt (c .before .before .before .before .args .array)))
+
+most-value-requires : tie.Need-most-value-requires
+most-value-requires c κs = search needs
 
 none-past-requires : tie.Need-none-past-requires
 none-past-requires c κs = search needs
+
+none-above-requires : tie.Need-none-above-requires
+none-above-requires c κs = search needs
 
 none-waits-requires : tie.Need-none-waits-requires
 none-waits-requires c κs = search needs
@@ -26,19 +34,20 @@ none-waits-requires c κs = search needs
 stripe-refusal-requires : tie.Need-stripe-refusal-requires
 stripe-refusal-requires c κs = search needs
 
--- a state holds sixteen positions
-long : (c : tie.Start) → length (c .args .state .at) ≡ 16
-long c = search needs
-
 returns : tie.Need-returns
+unfolding fit
 returns c =
     let w = c .before .before in
-    let p = w .before .before in
-    let b = p .before in
+    let v = w .before .before in
+    let p = v .before .before in
+    let m = p .before in
+    let b = m .before in
     let t = b .before .before .before .before in
-    let s = t .args .state in
+    let a = t .args in
+    let s : Scan = record { array = a .array; stripe = a .stripe; at = a .at .now; register = a .register .now; waiting = a .waiting .now; tag = [] } in
     ap (λ (x : ℕ). eqb x 0) (c .stripe-refusal .ensures)
-    ∙ fit-told s (λ i h. omega (arith, p .none-past .ensures (w .before .if1 .taken) i h, b .block-length .ensures)) (w .none-waits .ensures (c .before .if2 .taken)) (long t)
+    ∙ fit-told s (λ i h. omega (arith, p .none-past .ensures (v .before .if1 .taken) i h, b .block-length .ensures))
+    (λ i h. omega (arith, v .none-above .ensures (w .before .if2 .taken) i h, m .most-value .ensures)) (w .none-waits .ensures (c .before .if3 .taken)) (t .pre .0)
 
 fit-requires : tie.Need-fit-requires
 fit-requires c κs = search needs
@@ -52,7 +61,9 @@ fit-at-once-spec =
     (tie.spec
     block-length-requires
     cast-end
+    most-value-requires
     none-past-requires
+    none-above-requires
     none-waits-requires
     stripe-refusal-requires
     returns

@@ -20,7 +20,7 @@ take-in-requires c κs =
     let s = i .before .before .before in
     let a = s .args in
     let fine = accepted (a .state) (a .member) (length (a .bytes .now)) (length (a .work .now)) (sym (s .pre) ∙ i .if1 .left) in
-    (omega (arith, fine .here, fine .state .few), (fine .room, fine .long))
+    (omega (arith, fine .here, fine .state .few), (fine .room, (fine .long, (fine .state .narrow (a .member) (fine .here), fine .state .alone (a .member) (fine .here)))))
 
 same-length : tie.Need-same-length
 same-length c = search needs

@@ -12,10 +12,10 @@ use Rattle.scan.proofs.taking.none_past.Statement.{statement}
 use Rattle.scan.proofs.taking.none_past.Tie as tie
 
 abbrev Inv-loop : tie.InvT-loop
-Inv-loop end at none₀ i₀ none i = (i ≤ 16) × (none ≡ true → (k : ℕ) → k < i → leb (getD at k 0) end ≡ true)
+Inv-loop at end none₀ i₀ none i = (i ≤ 16) × (none ≡ true → (k : ℕ) → k < i → leb (getD at k 0) end ≡ true)
 
 abbrev μ-loop : tie.MeasureT-loop
-μ-loop end at none₀ i₀ none i = 16 - i
+μ-loop at end none₀ i₀ none i = 16 - i
 
 loop-holds : tie.Need-loop-holds Inv-loop μ-loop
 loop-holds c = (omega arith, λ e k h. absurd (omega arith))
@@ -23,8 +23,8 @@ loop-holds c = (omega arith, λ e k h. absurd (omega arith))
 mul-still : tie.Need-mul-still Inv-loop μ-loop
 mul-still c = search needs
 
-array-read-still : tie.Need-array-read-still Inv-loop μ-loop
-array-read-still c = search needs
+shared-slice-read-still : tie.Need-shared-slice-read-still Inv-loop μ-loop
+shared-slice-read-still c = search needs
 
 still-requires : tie.Need-still-requires Inv-loop μ-loop
 still-requires c κs = search needs
@@ -37,15 +37,15 @@ loop-less c = search needs
 
 loop-again : tie.Need-loop-again Inv-loop μ-loop
 loop-again c =
-    let at = c .before .before .loop in
-    let a = c .before .before .before .args in
-    (omega arith, still-all (λ (x : ℕ). leb x (a .end)) (a .t1) (at .i) (at .none) (c .still .result) (c .still .ensures) (at .inv .1))
+    let at = c .before .before .before .loop in
+    let a = c .before .before .before .before .before .args in
+    (omega arith, still-all (λ (x : ℕ). leb x (a .end)) (a .at .now) (at .i) (at .none) (c .still .result) (c .still .ensures) (at .inv .1))
 
 returns : tie.Need-returns Inv-loop μ-loop
 returns c =
     let at = c .before .loop in
-    let a = c .before .before .args in
-    λ yes-all k h. leb-true (getD (a .t1) k 0) (a .end) (at .inv .1 yes-all k (omega arith))
+    let a = c .before .before .before .args in
+    λ yes-all k h. leb-true (getD (a .at .now) k 0) (a .end) (at .inv .1 yes-all k (omega arith))
 
 pub none-past-spec : {M : Type 1} → statement M
 none-past-spec =
@@ -55,7 +55,7 @@ none-past-spec =
     μ-loop
     loop-holds
     mul-still
-    array-read-still
+    shared-slice-read-still
     still-requires
     add-i
     loop-less

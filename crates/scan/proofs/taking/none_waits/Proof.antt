@@ -20,8 +20,8 @@ abbrev μ-loop : tie.MeasureT-loop
 loop-holds : tie.Need-loop-holds Inv-loop μ-loop
 loop-holds c = (omega arith, λ e k h. absurd (omega arith))
 
-array-read-still : tie.Need-array-read-still Inv-loop μ-loop
-array-read-still c = search needs
+shared-slice-read-still : tie.Need-shared-slice-read-still Inv-loop μ-loop
+shared-slice-read-still c = search needs
 
 still-requires : tie.Need-still-requires Inv-loop μ-loop
 still-requires c κs = search needs
@@ -34,15 +34,15 @@ loop-less c = search needs
 
 loop-again : tie.Need-loop-again Inv-loop μ-loop
 loop-again c =
-    let at = c .before .before .loop in
-    let a = c .before .before .before .args in
-    (omega arith, still-all (λ (x : ℕ). eqb x 0) (a .t1) (at .i) (at .none) (c .still .result) (c .still .ensures) (at .inv .1))
+    let at = c .before .before .before .loop in
+    let a = c .before .before .before .before .before .args in
+    (omega arith, still-all (λ (x : ℕ). eqb x 0) (a .waiting .now) (at .i) (at .none) (c .still .result) (c .still .ensures) (at .inv .1))
 
 returns : tie.Need-returns Inv-loop μ-loop
 returns c =
     let at = c .before .loop in
-    let a = c .before .before .args in
-    λ yes-all k h. eqb-true (getD (a .t1) k 0) 0 (at .inv .1 yes-all k (omega arith))
+    let a = c .before .before .before .args in
+    λ yes-all k h. eqb-true (getD (a .waiting .now) k 0) 0 (at .inv .1 yes-all k (omega arith))
 
 pub none-waits-spec : {M : Type 1} → statement M
 none-waits-spec =
@@ -51,7 +51,7 @@ none-waits-spec =
     Inv-loop
     μ-loop
     loop-holds
-    array-read-still
+    shared-slice-read-still
     still-requires
     add-i
     loop-less

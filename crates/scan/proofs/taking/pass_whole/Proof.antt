@@ -25,17 +25,17 @@ part-head-end c = let F = formatOf (c .before .before .before .before .before .a
 tag-at-requires : tie.Need-tag-at-requires
 tag-at-requires c κs = search needs
 
-sub-put : tie.Need-sub-put
-sub-put c = let s = c .before .before .before .before .before .before .before .before in let F = formatOf (s .args .method) in omega (arith, F .block-parts, s .pre .1 .0, c .before .before .before .before .data-length .ensures, c .before .before .before .block-length .ensures)
+sub-put-tag : tie.Need-sub-put-tag
+sub-put-tag c = let s = c .before .before .before .before .before .before .before .before in let F = formatOf (s .args .method) in omega (arith, F .block-parts, s .pre .1 .0, c .before .before .before .before .data-length .ensures, c .before .before .before .block-length .ensures)
 
-part-put-start : tie.Need-part-put-start
-part-put-start c = let s = c .before .before .before .before .before .before .before .before in let F = formatOf (s .args .method) in omega (arith, F .block-parts, s .pre .1 .0, c .before .before .before .before .data-length .ensures, c .before .before .before .block-length .ensures)
+part-put-tag-start : tie.Need-part-put-tag-start
+part-put-tag-start c = let s = c .before .before .before .before .before .before .before .before in let F = formatOf (s .args .method) in omega (arith, F .block-parts, s .pre .1 .0, c .before .before .before .before .data-length .ensures, c .before .before .before .block-length .ensures)
 
-part-put-end : tie.Need-part-put-end
-part-put-end c = search needs
+part-put-tag-end : tie.Need-part-put-tag-end
+part-put-tag-end c = search needs
 
-put-requires : tie.Need-put-requires
-put-requires c κs = search needs
+put-tag-requires : tie.Need-put-tag-requires
+put-tag-requires c κs = search needs
 
 start-requires : tie.Need-start-requires
 start-requires c κs = search needs
@@ -67,7 +67,7 @@ returns c =
       (
         whole-work F (a .bytes .now) (d .data-length .result) size (a .work .now) _ (x .xor-into .ensures),
         whole-tags F (a .bytes .now) (d .data-length .result) size (a .tag .now) _ (a .member) (p .before .before .tag-at .result) (b .block-length .result)
-            (s .pre .1 .0) (b .block-length .ensures) (p .before .before .tag-at .ensures) (p .put .ensures),
+            (s .pre .1 .0) (b .block-length .ensures) (p .before .before .tag-at .ensures) (p .put-tag .ensures),
       ),
     )
 
@@ -81,10 +81,10 @@ pass-whole-spec =
     part-head-start
     part-head-end
     tag-at-requires
-    sub-put
-    part-put-start
-    part-put-end
-    put-requires
+    sub-put-tag
+    part-put-tag-start
+    part-put-tag-end
+    put-tag-requires
     start-requires
     advance-requires
     xor-into-requires

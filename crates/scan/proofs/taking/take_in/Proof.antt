@@ -1,5 +1,10 @@
 -- `scan::taking::take_in` meets its contract. Assumes nothing.
+use mathlib.Core.Path.{_≡_, ap, _∙_}
+use Prim.Native.Nat.{ℕ, _+_, _%_}
+use native.Mathlib.Nat.{mod-eq-of-lt}
 use native.Mathlib.Omega.{arith}
+use lib.ListN.{length, getD, set}
+use Rattle.format.proofs.Laws.{kept-small}
 use Rattle.tag.specs.Blocks.{formatAt}
 use Rattle.scan.specs.Scans.{buffer}
 use Rattle.scan.proofs.Cuts.{advanced-by}
@@ -28,6 +33,14 @@ array-read-register-of-2 c = search needs
 register-of-requires : tie.Need-register-of-requires
 register-of-requires c κs = search needs
 
+cast-register : tie.Need-cast-register
+cast-register c =
+    let s = c .before .before .before .before .before .before .before .before in
+    let a = s .args .state in
+    let m = s .args .member in
+    let small = kept-small (a .array .method) (getD (a .at) m 0) (getD (a .register) m 0) (getD (a .waiting) m 0) (s .pre .1 .1 .1 .0) (c .register-of .ensures .1) (s .pre .1 .1 .1 .1) in
+    omega (arith, c .register-of .ensures .0, small)
+
 slice-aggregate-pass : tie.Need-slice-aggregate-pass
 slice-aggregate-pass c = search needs
 
@@ -52,14 +65,14 @@ cast-replaced-2 c =
 replaced-requires : tie.Need-replaced-requires
 replaced-requires c κs = search needs
 
-cast-replaced-3 : tie.Need-cast-replaced-3
-cast-replaced-3 c = search needs
+cast-replaced-value : tie.Need-cast-replaced-value
+cast-replaced-value c = search needs
 
 value-in-requires : tie.Need-value-in-requires
 value-in-requires c κs = search needs
 
-replaced-requires-2 : tie.Need-replaced-requires-2
-replaced-requires-2 c κs = search needs
+replaced-value-requires : tie.Need-replaced-value-requires
+replaced-value-requires c κs = search needs
 
 waiting-in-requires : tie.Need-waiting-in-requires
 waiting-in-requires c κs = search needs
@@ -78,11 +91,14 @@ returns c =
     let p = v .before .before .before .before .before in
     let r = p .before .before .before in
     let s = r .before .before .before .before .before .before .before .before in
-    let a = s .args in (
-      advanced-by (a .state) (a .member) (a .bytes .now) (v .before .replaced .result) (w .before .replaced2 .result) (c .replaced-byte .result)
+    let a = s .args in
+    let place : a .member % 65536 ≡ a .member = mod-eq-of-lt (omega (arith, s .pre .0)) in
+    let wide-place : a .member % 4294967296 ≡ a .member = mod-eq-of-lt (omega (arith, s .pre .0)) in (
+      advanced-by (a .state) (a .member) (a .bytes .now) (v .before .replaced .result) (w .before .replaced-value .result) (c .replaced-byte .result)
           (r .register-of .result) (p .pass .result) (v .value-in .result) (w .waiting-in .result) _
-          (r .register-of .ensures) (p .pass .ensures .0) (v .value-in .ensures) (w .waiting-in .ensures)
-          (v .before .replaced .ensures) (w .before .replaced2 .ensures) (c .replaced-byte .ensures) (p .pass .ensures .1 .1),
+          (r .register-of .ensures .0) (p .pass .ensures .0) (v .value-in .ensures) (w .waiting-in .ensures)
+          (v .before .replaced .ensures ∙ ap (λ (m : ℕ). set (a .state .at) m (getD (a .state .at) (a .member) 0 + length (a .bytes .now))) place)
+          (w .before .replaced-value .ensures ∙ ap (λ (m : ℕ). set (a .state .register) m (v .value-in .result)) wide-place) (c .replaced-byte .ensures) (p .pass .ensures .1 .1),
       p .pass .ensures .1 .0,
     )
 
@@ -97,15 +113,16 @@ take-in-spec =
     array-read-register-of
     array-read-register-of-2
     register-of-requires
+    cast-register
     slice-aggregate-pass
     pass-requires
     cast-replaced
     add-replaced
     cast-replaced-2
     replaced-requires
-    cast-replaced-3
+    cast-replaced-value
     value-in-requires
-    replaced-requires-2
+    replaced-value-requires
     waiting-in-requires
     replaced-byte-requires
     same-length

@@ -5,6 +5,7 @@ use mathlib.Core.List.{List}
 use Prim.Native.Nat.{ℕ, _+_, _-_, _%_, _≤_}
 use native.Mathlib.Omega.{arith}
 use lib.ListN.{length, drop}
+use Rattle.format.specs.Formats.{pieceLength}
 use Rattle.format.specs.Methods.{formatOf}
 use Rattle.verdict.specs.Verdicts.{lowest, nonzero}
 use Rattle.stripe.specs.Tables.{span}
@@ -17,14 +18,14 @@ use Rattle.stripe.proofs.scrubbing.first_torn.Tie as tie
 
 abbrev Inv-loop : tie.InvT-loop
 Inv-loop method bytes members «data» piece₀ from₀ piece from =
-    (from ≤ formatOf method .dataLength) × (from % 512 ≡ 0) × (length piece ≡ 512)
+    (from ≤ formatOf method .dataLength) × (from % pieceLength ≡ 0) × (length piece ≡ pieceLength)
     × (from + lowest (nonzero (drop from (othersData (formatOf method) members members bytes))) ≡ lowest (nonzero (othersData (formatOf method) members members bytes)))
 
 abbrev μ-loop : tie.MeasureT-loop
 μ-loop method bytes members «data» piece₀ from₀ piece from = formatOf method .dataLength - from
 
 -- the piece at hand lies within the data
-fits : (c : tie.In-loop Inv-loop μ-loop) → c .before .loop .from + 512 ≤ formatOf (c .before .before .before .before .args .method) .dataLength
+fits : (c : tie.In-loop Inv-loop μ-loop) → c .before .loop .from + pieceLength ≤ formatOf (c .before .before .before .before .args .method) .dataLength
 fits c = let F = formatOf (c .before .before .before .before .args .method) in omega (arith, F .data-pieces)
 
 data-length-requires : tie.Need-data-length-requires Inv-loop μ-loop
@@ -50,7 +51,7 @@ first-nonzero-requires c κs = search needs
 -- the piece is that of the combination
 piece : (k : tie.After-combined Inv-loop μ-loop) → let i = k .before .before in
     let a = i .before .before .before .before .args in
-    k .combined .last .1 .1 .1 .1 .1 .0 ≡ span (i .before .loop .from) 512 (othersData (formatOf (a .method)) (a .members) (a .members) (a .bytes .now))
+    k .combined .last .1 .1 .1 .1 .1 .0 ≡ span (i .before .loop .from) pieceLength (othersData (formatOf (a .method)) (a .members) (a .members) (a .bytes .now))
 piece k =
     let i = k .before .before in
     let at = i .before .loop in
@@ -94,12 +95,12 @@ loop-again c =
     let F = formatOf (a .method) in
     let whole = othersData F (a .members) (a .members) (a .bytes .now) in
     let long = length-othersData F (a .members) (a .members) (a .bytes .now) in
-    let room : at .from + 512 ≤ length whole = omega (arith, fits i, long) in
-    let past : 512 ≤ f .first-nonzero .result = omega (arith, c .if1 .left) in
+    let room : at .from + pieceLength ≤ length whole = omega (arith, fits i, long) in
+    let past : pieceLength ≤ f .first-nonzero .result = omega (arith, c .if1 .left) in
     let later = first-later whole (at .from) (f .first-nonzero .result) room (f .first-nonzero .ensures ∙ ap (λ (l : List ℕ). lowest (nonzero l)) (piece k)) past in (
       fits i,
       omega (arith, at .inv .1),
-      ap length (piece k) ∙ length-span (at .from) 512 whole room,
+      ap length (piece k) ∙ length-span (at .from) pieceLength whole room,
       later ∙ at .inv .3,
     )
 

@@ -3,10 +3,11 @@
 use mathlib.Core.Path.{_≡_, sym, ap, ap₂, _∙_}
 use mathlib.Core.Logic.{_≢_}
 use mathlib.Core.List.{List}
-use Prim.Native.Nat.{ℕ, _+_, _*_, _≤_, _<_}
+use Prim.Native.Nat.{ℕ, _+_, _-_, _*_, _≤_, _<_}
 use native.Mathlib.Omega.{arith}
 use borrow.Author.Tests.{eq-eqb, ne-eqb}
-use lib.ListN.{length, getD}
+use lib.ListN.{length, getD, take, drop}
+use lib.Seq.{sets, length-sets}
 use Rattle.format.specs.Formats.{guard, guardsOf}
 use Rattle.format.proofs.Sizes.{times-next}
 use Rattle.layout.specs.Arrays.{dataMembers}
@@ -20,6 +21,7 @@ use Rattle.tag.proofs.Guards.{own-data, guard-own}
 use Rattle.tag.proofs.Tagged.{tagged-by}
 use Rattle.stripe.specs.Tables.{part, span}
 use Rattle.stripe.specs.Jobs.{withBlock, guardOfParts}
+use Rattle.stripe.proofs.Blocks.{data-then-tag}
 use Rattle.stripe.proofs.Rows.{lent-span, length-span}
 use Rattle.stripe.proofs.Rooms.{block-room}
 use Rattle.stripe.proofs.Guards.{part-guard}
@@ -71,51 +73,67 @@ data-length-requires c κs = search needs
 add-end : tie.Need-add-end
 add-end c = omega (arith, inside (c .before .before), c .data-length .ensures, c .before .data-at .ensures)
 
-sub-write-block : tie.Need-sub-write-block
-sub-write-block c = search needs
+block-at-requires : tie.Need-block-at-requires
+block-at-requires c κs =
+    let i = c .before .before .before in
+    let s = i .before .before .before .before in
+    let a = s .args in
+    omega (arith, block-room (a .array) (a .stripe) (a .member) (s .pre .0) (a .bytes .now) (s .pre .1 .1 .0))
 
-part-write-block-start : tie.Need-part-write-block-start
-part-write-block-start c = search needs
+sub-put : tie.Need-sub-put
+sub-put c = search needs
 
-part-write-block-end : tie.Need-part-write-block-end
-part-write-block-end c = omega (arith, inside (c .before .before), c .data-length .ensures, c .before .data-at .ensures)
+part-put-start : tie.Need-part-put-start
+part-put-start c = search needs
 
-write-block-requires : tie.Need-write-block-requires
-write-block-requires c κs =
-    let d = c .before .before in
+part-put-end : tie.Need-part-put-end
+part-put-end c = omega (arith, inside (c .before .before .before .before), c .before .before .data-length .ensures, c .before .before .before .data-at .ensures)
+
+put-requires : tie.Need-put-requires
+put-requires c κs = search needs
+
+write-tag-requires : tie.Need-write-tag-requires
+write-tag-requires c κs =
+    let p = c .before .before .before in
+    let d = p .before .before .before .before in
     let f = d .before in
     let i = f .before in
     let s = i .before .before .before .before in
     let a = s .args in
-    let F = formatAt (a .array) in
-    let here = inside i in
-    let lent = lent-span (f .data-at .result) (d .data-length .result) (a .content .now) ∙ ap₂ (λ (k n : ℕ). span k n (a .content .now)) (f .data-at .ensures) (d .data-length .ensures) in (
-      s .pre .0,
-      (
-        ap length lent ∙ length-span (F .dataLength * i .index-beside .result) (F .dataLength) (a .content .now) here,
-        (block-room (a .array) (a .stripe) (a .member) (s .pre .0) (a .bytes .now) (s .pre .1 .1 .0), s .pre .1 .1 .1 .1),
-      ),
-    )
+    let same : length (p .put .last .0) ≡ length (a .bytes .now) =
+    ap length (p .put .ensures)
+    ∙ length-sets (a .bytes .now) (p .before .before .block-at .result) (take (f .data-at .result + d .data-length .result - f .data-at .result) (drop (f .data-at .result) (a .content .now))) in
+    (s .pre .0, (omega (arith, same, block-room (a .array) (a .stripe) (a .member) (s .pre .0) (a .bytes .now) (s .pre .1 .1 .0)), s .pre .1 .1 .1 .1))
 
 same-length : tie.Need-same-length
 same-length c = search needs
 
 returns-2 : tie.Need-returns-2
 returns-2 c =
-    let d = c .before .before .before .before .before in
+    let w = c .before .before in
+    let p = w .before .before .before .before in
+    let b = p .before .before in
+    let d = b .before .before in
     let f = d .before in
     let i = f .before in
     let s = i .before .before .before .before in
     let a = s .args in
     let F = formatAt (a .array) in
-    let lent = lent-span (f .data-at .result) (d .data-length .result) (a .content .now) ∙ ap₂ (λ (k n : ℕ). span k n (a .content .now)) (f .data-at .ensures) (d .data-length .ensures) in
+    let from = f .data-at .result in
+    let end = f .data-at .result + d .data-length .result in
+    let part-of = take (end - from) (drop from (a .content .now)) in
+    let lent : part-of ≡ span (F .dataLength * i .index-beside .result) (F .dataLength) (a .content .now) =
+    lent-span (f .data-at .result) (d .data-length .result) (a .content .now) ∙ ap₂ (λ (k n : ℕ). span k n (a .content .now)) (f .data-at .ensures) (d .data-length .ensures) in
+    let long : length part-of ≡ F .dataLength = ap length lent ∙ length-span (F .dataLength * i .index-beside .result) (F .dataLength) (a .content .now) (inside i) in
     let parts = guardOfParts (a .array) (a .content .now) in
     let own = s .pre .1 .1 .1 .0 ∙ ap (λ (k : ℕ). getD (guardsOf F 16 (F .dataLength) (a .content .now)) k 0) (sym (right i))
     ∙ part-guard F (a .content .now) (i .index-beside .result) (omega (arith, small i, many i)) ∙ ap (guard F) (sym lent) in
+    let written = data-then-tag (a .array) (a .stripe) (a .member) (a .data-guard) (a .bytes .now) (p .put .last .0) (w .write-tag .last .1 .1 .1 .1 .1 .0) part-of long
+    (p .put .ensures ∙ ap (λ (k : ℕ). sets (a .bytes .now) k part-of) (b .block-at .ensures)) (w .write-tag .ensures) in
     rw (ne-eqb (a .member) (parityMember (a .array) (a .stripe)) (not-parity i))
-    (c .before .before .write-block .ensures
+    (written
     ∙ ap (withBlock F (a .bytes .now) (a .member))
-    (tagged-by (a .array) (a .stripe) (a .member) parts (a .data-guard) _ (own ∙ sym (guard-own (a .array) (a .stripe) (a .member) parts _ (own-data (a .array) (a .stripe) (a .member) (not-parity i)))))
+    (tagged-by (a .array) (a .stripe) (a .member) parts (a .data-guard) part-of (own ∙ sym (guard-own (a .array) (a .stripe) (a .member) parts _ (own-data (a .array) (a .stripe) (a .member) (not-parity i)))))
     ∙ ap (λ (l : List ℕ). withBlock F (a .bytes .now) (a .member) (tagged (a .array) (a .stripe) (a .member) parts l))
     (lent ∙ ap (part (F .dataLength) (a .content .now)) (right i)))
 
@@ -128,9 +146,11 @@ write-member-spec =
     data-at-requires
     data-length-requires
     add-end
-    sub-write-block
-    part-write-block-start
-    part-write-block-end
-    write-block-requires
+    block-at-requires
+    sub-put
+    part-put-start
+    part-put-end
+    put-requires
+    write-tag-requires
     same-length
     returns-2)

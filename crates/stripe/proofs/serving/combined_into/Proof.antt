@@ -6,6 +6,7 @@ use Prim.Native.Nat.{ℕ, _+_, _-_, _%_, _≤_}
 use native.Mathlib.Omega.{arith}
 use lib.ListN.{length}
 use lib.Seq.{sets, length-sets}
+use Rattle.format.specs.Formats.{pieceLength}
 use Rattle.format.specs.Methods.{formatOf}
 use Rattle.stripe.specs.Tables.{span}
 use Rattle.stripe.specs.Stripes.{othersData}
@@ -16,14 +17,14 @@ use Rattle.stripe.proofs.serving.combined_into.Tie as tie
 
 abbrev Inv-loop : tie.InvT-loop
 Inv-loop method bytes members skip out₀ from₀ out from =
-    (from ≤ formatOf method .dataLength) × (from % 512 ≡ 0) × (length out ≡ formatOf method .dataLength)
+    (from ≤ formatOf method .dataLength) × (from % pieceLength ≡ 0) × (length out ≡ formatOf method .dataLength)
     × (out ≡ sets out₀ 0 (span 0 from (othersData (formatOf method) members skip bytes)))
 
 abbrev μ-loop : tie.MeasureT-loop
 μ-loop method bytes members skip out₀ from₀ out from = formatOf method .dataLength - from
 
 -- the piece at hand lies within the data
-fits : (c : tie.In-loop Inv-loop μ-loop) → c .before .loop .from + 512 ≤ formatOf (c .before .before .before .before .args .method) .dataLength
+fits : (c : tie.In-loop Inv-loop μ-loop) → c .before .loop .from + pieceLength ≤ formatOf (c .before .before .before .before .args .method) .dataLength
 fits c = let F = formatOf (c .before .before .before .before .args .method) in omega (arith, F .data-pieces)
 
 loop-holds : tie.Need-loop-holds Inv-loop μ-loop
@@ -55,11 +56,11 @@ loop-again c =
     let F = formatOf (a .method) in
     let whole = othersData F (a .members) (a .skip) (a .bytes .now) in
     let long = length-othersData F (a .members) (a .skip) (a .bytes .now) in
-    let piece = span (at .from) 512 whole in (
+    let piece = span (at .from) pieceLength whole in (
       fits i,
       omega (arith, at .inv .1),
       ap length (k .combined .ensures) ∙ length-sets (at .out) (at .from) piece ∙ at .inv .2,
-      k .combined .ensures ∙ ap (λ (l : List ℕ). sets l (at .from) piece) (at .inv .3) ∙ front-next whole (a .out .now) (at .from) 512 (omega (arith, at .inv .0, long)),
+      k .combined .ensures ∙ ap (λ (l : List ℕ). sets l (at .from) piece) (at .inv .3) ∙ front-next whole (a .out .now) (at .from) pieceLength (omega (arith, at .inv .0, long)),
     )
 
 same-length : tie.Need-same-length Inv-loop μ-loop

@@ -7,6 +7,7 @@ use native.Mathlib.Omega.{arith}
 use lib.ListN.{length}
 use lib.Seq.{sets, length-sets}
 use Rattle.xor.specs.Xors.{xors}
+use Rattle.format.specs.Formats.{pieceLength}
 use Rattle.format.specs.Methods.{formatOf}
 use Rattle.tag.specs.Blocks.{dataOf}
 use Rattle.stripe.specs.Tables.{span}
@@ -20,14 +21,14 @@ use Rattle.stripe.proofs.updating.move_parity.Tie as tie
 
 abbrev Inv-loop : tie.InvT-loop
 Inv-loop method parity member content bytes₀ to old piece₀ from₀ bytes piece from =
-    (from ≤ formatOf method .dataLength) × (from % 512 ≡ 0) × (length piece ≡ 512)
+    (from ≤ formatOf method .dataLength) × (from % pieceLength ≡ 0) × (length piece ≡ pieceLength)
     × (bytes ≡ sets bytes₀ (formatOf method .blockLength * parity) (span 0 from (moved (formatOf method) parity member bytes₀ content)))
 
 abbrev μ-loop : tie.MeasureT-loop
 μ-loop method parity member content bytes₀ to old piece₀ from₀ bytes piece from = formatOf method .dataLength - from
 
 -- the piece at hand lies within the data
-fits : (c : tie.In-loop Inv-loop μ-loop) → c .before .loop .from + 512 ≤ formatOf (c .before .before .before .before .before .before .args .method) .dataLength
+fits : (c : tie.In-loop Inv-loop μ-loop) → c .before .loop .from + pieceLength ≤ formatOf (c .before .before .before .before .before .before .args .method) .dataLength
 fits c =
     let s = c .before .before .before .before .before .before in
     omega (arith, formatOf (s .args .method) .data-pieces, s .pre .1 .1 .0)
@@ -115,19 +116,19 @@ loop-again c =
     let F = formatOf (a .method) in
     let whole = moved F (a .parity) (a .member) (a .bytes .now) (a .content .now) in
     let long : length whole ≡ F .dataLength = length-moved F (a .parity) (a .bytes .now) (dataOf F (blockOf F (a .bytes .now) (a .member))) (a .content .now) (s .pre .0) in
-    let room : at .from + 512 ≤ length whole = omega (arith, fits i, long) in
+    let room : at .from + pieceLength ≤ length whole = omega (arith, fits i, long) in
     let piece = k .moved-piece .last .1 .1 .1 .1 .1 .0 in
-    let made : piece ≡ span (at .from) 512 whole =
+    let made : piece ≡ span (at .from) pieceLength whole =
     k .moved-piece .ensures
-    ∙ ap₂ (λ (x y : ℕ). xors (xors (span (x + at .from) 512 (at .bytes)) (span (y + at .from) 512 (at .bytes))) (span (at .from) 512 (a .content .now))) (b .block-at .ensures) (o .block-at2 .ensures)
+    ∙ ap₂ (λ (x y : ℕ). xors (xors (span (x + at .from) pieceLength (at .bytes)) (span (y + at .from) pieceLength (at .bytes))) (span (at .from) pieceLength (a .content .now))) (b .block-at .ensures) (o .block-at2 .ensures)
     ∙ moved-next F (a .parity) (a .member) (at .from) (a .bytes .now) (a .content .now) (s .pre .1 .1 .1) (fits i) whole (at .bytes) refl long (at .inv .3) in (
       fits i,
       omega (arith, at .inv .1),
-      ap length made ∙ length-span (at .from) 512 whole room,
+      ap length made ∙ length-span (at .from) pieceLength whole room,
       p .put .ensures
           ∙ ap₂ (λ (l : List ℕ) (to : ℕ). sets l (to + at .from) piece) (at .inv .3) (b .block-at .ensures)
           ∙ ap (sets (sets (a .bytes .now) (F .blockLength * a .parity) (span 0 (at .from) whole)) (F .blockLength * a .parity + at .from)) made
-          ∙ put-next whole (a .bytes .now) (F .blockLength * a .parity) (at .from) 512 (omega (arith, at .inv .0, long)),
+          ∙ put-next whole (a .bytes .now) (F .blockLength * a .parity) (at .from) pieceLength (omega (arith, at .inv .0, long)),
     )
 
 same-length : tie.Need-same-length Inv-loop μ-loop

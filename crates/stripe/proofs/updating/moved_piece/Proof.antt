@@ -2,6 +2,7 @@
 -- Assumes nothing.
 use mathlib.Core.Path.{sym, ap, ap₂, _∙_}
 use lib.Seq.{sets}
+use Rattle.format.specs.Formats.{pieceLength}
 use Rattle.xor.specs.Xors.{xors}
 use Rattle.stripe.specs.Tables.{span}
 use Rattle.stripe.proofs.Pieces.{sets-whole}
@@ -65,10 +66,10 @@ returns c =
     let copy = old .before .before .before .before .before in
     let s = copy .before .before .before .before .before .before in
     let a = s .args in
-    let first = copy .put .ensures ∙ ap (sets (a .piece .now) 0) (lent-span (a .parity) 512 (a .bytes .now))
-    ∙ sets-whole (a .piece .now) (span (a .parity) 512 (a .bytes .now)) (s .pre .1 .1 .1 ∙ sym (length-span (a .parity) 512 (a .bytes .now) (s .pre .0))) in
-    let second = old .xor-into .ensures ∙ ap₂ xors first (lent-span (a .old) 512 (a .bytes .now)) in
-    new .xor-into2 .ensures ∙ ap₂ xors second (lent-span (a .from) 512 (a .content .now))
+    let first = copy .put .ensures ∙ ap (sets (a .piece .now) 0) (lent-span (a .parity) pieceLength (a .bytes .now))
+    ∙ sets-whole (a .piece .now) (span (a .parity) pieceLength (a .bytes .now)) (s .pre .1 .1 .1 ∙ sym (length-span (a .parity) pieceLength (a .bytes .now) (s .pre .0))) in
+    let second = old .xor-into .ensures ∙ ap₂ xors first (lent-span (a .old) pieceLength (a .bytes .now)) in
+    new .xor-into2 .ensures ∙ ap₂ xors second (lent-span (a .from) pieceLength (a .content .now))
 
 pub moved-piece-spec : {M : Type 1} → statement M
 moved-piece-spec =
