@@ -351,7 +351,8 @@ pub fn some_wrong(number: usize) -> Fits {
 
 type Damage = fn(&mut Case, usize, &mut Random);
 
-const DAMAGES: [Damage; 36] = [
+const DAMAGES: [Damage; 37] = [
+    fields,
     fields,
     fields,
     flip,
@@ -541,7 +542,7 @@ fn torn_unnoticed(case: &mut Case, member: usize, random: &mut Random) {
 
 /// The generator of a CRC as the bytes of a run, of which no guard tells: seventeen bits, the highest of each byte first, or by method 3 thirty-three,
 /// the lowest first. By method 2 it is a change like any other.
-pub fn generator(method: u8) -> &'static [u8] {
+fn generator(method: u8) -> &'static [u8] {
     match method {
         3 => &[0xF1, 0x76, 0xEC, 0x05, 0x01],
         _ => &[0x01, 0x8B, 0xB7],
