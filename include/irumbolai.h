@@ -17,11 +17,17 @@
  * each of its calls copies. Bytes between the fields hold nothing: compare structs by their fields, not with memcmp.
  * In C++ the word struct is needed before a name that is a call's too.
  *
- * The array. It is named by four numbers: `members` (drives, n), `stripes` (S), `volume` (any byte) and `method`, the
- * guard method of all its blocks: 1 (CRC), 2 (checksum) or 3 (large blocks). Stripes, members and blocks are counted
- * from 0. A stripe has one block on each member. One of these holds the parity, the exclusive-or of the others' data;
- * the other n - 1 hold data, so the array's block numbers run from 0 to S x (n - 1) - 1. The parity of stripe s lies on
- * member s mod n, and its data, from block s x (n - 1) on, on the other members in rising order.
+ * The array. It is named by five numbers: `members` (drives, n), `stripes` (S), `volume` (any byte), `method`, the
+ * guard method of all its blocks: 1 (CRC), 2 (checksum) or 3 (large blocks), and `row` (c), how many successive blocks
+ * lie on one drive. Stripes, members and blocks are counted from 0. A stripe has one block on each member. One of these holds
+ * the parity, the exclusive-or of the others' data; the other n - 1 hold data, so the array's block numbers run from 0
+ * to S x (n - 1) - 1.
+ *
+ * Rows. A row is c successive stripes, c one of 1, 2, 4 .. 128. With g = s / c rounded down and k = s mod c, the parity
+ * of stripe s lies on member g mod n, its lowest block is g x (n - 1) x c + k, and on the other members in rising order
+ * lie that block and each c-th after it. So within a row every drive holds c successive blocks, and a sequential read
+ * stays on it. At c = 1 the parity is on member s mod n, and the data are the blocks from s x (n - 1) on. This is the
+ * layout that Linux md calls right-asymmetric, with a chunk of c blocks.
  *
  * A block is D bytes of data, then its tag, B bytes together. In the tag every field has its highest byte first. Of the
  * guard (of the data, but see method 2), the application tag (00h for data or 80h for parity, then the volume) and the
@@ -81,8 +87,9 @@
  *    1  members, or the number of guards, is not 3 to 16
  *    2  stripes is not 1 to 268,435,456
  *   12  method is not 1 to 3; tested next after 2
+ *   13  row is not one of 1, 2, 4 .. 128, or does not divide stripes; tested next after 12
  *    3  the array has no such stripe, or no such block
- *    4  the state of a scan is not fit: 1, 2, 12 or 3 holds of its numbers; or, of one of its first n members, the
+ *    4  the state of a scan is not fit: 1, 2, 12, 13 or 3 holds of its numbers; or, of one of its first n members, the
  *       position is above B, the register is above FFFFh in method 1 or 2, or a byte waits where none can: `waiting`
  *       has to be 0 unless the method is 2 and the position is odd and below 512
  *    5  the array has no such member
@@ -175,28 +182,28 @@ uint16_t irumbolai_combine(uint16_t a, uint16_t b);
 /*
  * Where a block lies: its stripe, and the member of it.
  *
- *   refusals  1, 2, 12, 3
+ *   refusals  1, 2, 12, 13, 3
  */
 struct irumbolai_place {
     uint32_t refusal;
     uint32_t member;
     uint64_t stripe;
 };
-struct irumbolai_place irumbolai_place(size_t members, uint64_t stripes, uint8_t volume, uint8_t method,
+struct irumbolai_place irumbolai_place(size_t members, uint64_t stripes, uint8_t volume, uint8_t method, uint8_t row,
                                        uint64_t block);
 
 /*
  * What lies on a member of a stripe: with `parity` 0 the block of that number; with `parity` 1 the parity, and
  * `block` is the lowest block number in the stripe.
  *
- *   refusals  1, 2, 12, 3, 5
+ *   refusals  1, 2, 12, 13, 3, 5
  */
 struct irumbolai_owner {
     uint32_t refusal;
     uint32_t parity;
     uint64_t block;
 };
-struct irumbolai_owner irumbolai_owner(size_t members, uint64_t stripes, uint8_t volume, uint8_t method,
+struct irumbolai_owner irumbolai_owner(size_t members, uint64_t stripes, uint8_t volume, uint8_t method, uint8_t row,
                                        uint64_t stripe, size_t member);
 
 /*
@@ -210,7 +217,7 @@ struct irumbolai_owner irumbolai_owner(size_t members, uint64_t stripes, uint8_t
  *   2  unchecked: no field is told, all their numbers are 0. Look at `kind` first: `fits` 0 does not mean bad here
  *
  *   lent      block: B bytes, read
- *   refusals  1, 2, 12, 3, 5, 6
+ *   refusals  1, 2, 12, 13, 3, 5, 6
  */
 struct irumbolai_field {
     uint64_t found;
@@ -224,7 +231,7 @@ struct irumbolai_check {
     struct irumbolai_field application;
     struct irumbolai_field reference;
 };
-struct irumbolai_check irumbolai_check(size_t members, uint64_t stripes, uint8_t volume, uint8_t method,
+struct irumbolai_check irumbolai_check(size_t members, uint64_t stripes, uint8_t volume, uint8_t method, uint8_t row,
                                        uint64_t stripe, size_t member, const uint8_t *block, size_t length);
 
 /*
@@ -232,9 +239,9 @@ struct irumbolai_check irumbolai_check(size_t members, uint64_t stripes, uint8_t
  * and the parity is made, with its tag by the method. Gives the refusal.
  *
  *   lent      data: (n - 1) x D bytes, read; bytes: the stripe, n x B bytes, every byte written
- *   refusals  1, 2, 12, 3, 6
+ *   refusals  1, 2, 12, 13, 3, 6
  */
-uint32_t irumbolai_seal(size_t members, uint64_t stripes, uint8_t volume, uint8_t method, uint64_t stripe,
+uint32_t irumbolai_seal(size_t members, uint64_t stripes, uint8_t volume, uint8_t method, uint8_t row, uint64_t stripe,
                         const uint8_t *data, size_t data_length, uint8_t *bytes, size_t length);
 
 /*
@@ -250,14 +257,15 @@ uint32_t irumbolai_seal(size_t members, uint64_t stripes, uint8_t volume, uint8_
  * not combine to that checksum.
  *
  *   lent      bytes: the stripe, n x B bytes, read; out: D bytes, every byte written
- *   refusals  1, 2, 12, 3, 6, 9
+ *   refusals  1, 2, 12, 13, 3, 6, 9
  */
 struct irumbolai_read {
     uint32_t refusal;
     uint32_t kind;
 };
-struct irumbolai_read irumbolai_read(size_t members, uint64_t stripes, uint8_t volume, uint8_t method, uint64_t block,
-                                     const uint8_t *bytes, size_t length, uint8_t *out, size_t out_length);
+struct irumbolai_read irumbolai_read(size_t members, uint64_t stripes, uint8_t volume, uint8_t method, uint8_t row,
+                                     uint64_t block, const uint8_t *bytes, size_t length, uint8_t *out,
+                                     size_t out_length);
 
 /*
  * Makes the block of a member from the others, whatever stood there, good, bad or unchecked: the exclusive-or of their
@@ -266,10 +274,10 @@ struct irumbolai_read irumbolai_read(size_t members, uint64_t stripes, uint8_t v
  * the lost ones if parity was right before the loss. Gives the refusal.
  *
  *   lent      bytes: the stripe, n x B bytes, read; of them the member's B bytes, written
- *   refusals  1, 2, 12, 3, 5, 6, 9
+ *   refusals  1, 2, 12, 13, 3, 5, 6, 9
  */
-uint32_t irumbolai_rebuild(size_t members, uint64_t stripes, uint8_t volume, uint8_t method, uint64_t stripe,
-                           size_t member, uint8_t *bytes, size_t length);
+uint32_t irumbolai_rebuild(size_t members, uint64_t stripes, uint8_t volume, uint8_t method, uint8_t row,
+                           uint64_t stripe, size_t member, uint8_t *bytes, size_t length);
 
 /*
  * Puts new data into a block and brings the parity of its stripe along, its guard by the method. Both blocks must be
@@ -278,9 +286,9 @@ uint32_t irumbolai_rebuild(size_t members, uint64_t stripes, uint8_t volume, uin
  *
  *   lent      data: D bytes, read; bytes: the stripe, n x B bytes, of which the B of the block and the B of the parity
  *             are read and written
- *   refusals  1, 2, 12, 3, 6, 9
+ *   refusals  1, 2, 12, 13, 3, 6, 9
  */
-uint32_t irumbolai_update(size_t members, uint64_t stripes, uint8_t volume, uint8_t method, uint64_t block,
+uint32_t irumbolai_update(size_t members, uint64_t stripes, uint8_t volume, uint8_t method, uint8_t row, uint64_t block,
                           const uint8_t *data, size_t data_length, uint8_t *bytes, size_t length);
 
 /*
@@ -300,7 +308,7 @@ uint32_t irumbolai_update(size_t members, uint64_t stripes, uint8_t volume, uint
  * Where the kind is not bad the last three are 0, for a clean stripe too.
  *
  *   lent      bytes: the stripe, n x B bytes, read
- *   refusals  1, 2, 12, 3, 6
+ *   refusals  1, 2, 12, 13, 3, 6
  */
 struct irumbolai_verdict {
     uint32_t refusal;
@@ -311,7 +319,7 @@ struct irumbolai_verdict {
     uint32_t application_fits;
     uint32_t reference_fits;
 };
-struct irumbolai_verdict irumbolai_scrub(size_t members, uint64_t stripes, uint8_t volume, uint8_t method,
+struct irumbolai_verdict irumbolai_scrub(size_t members, uint64_t stripes, uint8_t volume, uint8_t method, uint8_t row,
                                          uint64_t stripe, const uint8_t *bytes, size_t length);
 
 /*
@@ -361,6 +369,7 @@ struct irumbolai_scan {
     uint64_t stripes;
     uint8_t volume;
     uint8_t method;
+    uint8_t row;
     uint64_t stripe;
     uint16_t at[16];
     uint32_t register_[16];
@@ -377,9 +386,9 @@ struct irumbolai_taken {
  * at FFFFh in method 2, at FFFFFFFFh in method 3. Where it is refused the whole state is zero.
  *
  *   lent      work: D bytes, every byte set to zero
- *   refusals  1, 2, 12, 3, 6
+ *   refusals  1, 2, 12, 13, 3, 6
  */
-struct irumbolai_taken irumbolai_start(size_t members, uint64_t stripes, uint8_t volume, uint8_t method,
+struct irumbolai_taken irumbolai_start(size_t members, uint64_t stripes, uint8_t volume, uint8_t method, uint8_t row,
                                        uint64_t stripe, uint8_t *work, size_t work_length);
 
 /*

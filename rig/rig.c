@@ -2,7 +2,7 @@
  * The rig: looks at one stripe through libirumbolai.a and says what it finds. README.md has the format of its file,
  * its lines and its exit codes.
  *
- *     rig MEMBERS STRIPES VOLUME METHOD STRIPE FILE
+ *     rig MEMBERS STRIPES VOLUME METHOD ROW STRIPE FILE
  */
 #include <errno.h>
 #include <inttypes.h>
@@ -27,6 +27,7 @@ struct stripe {
     uint64_t stripes;
     uint8_t volume;
     uint8_t method;
+    uint8_t row;
     uint64_t number;
     uint8_t *bytes;
     size_t length;
@@ -64,6 +65,7 @@ static const char *in_words(uint32_t refusal)
         [8] = "a member has not given all its bytes",
         [9] = "the blocks that are needed are not all good, or do not belong together",
         [12] = "the method is not 1 to 3",
+        [13] = "the row length is not 1, 2, 4 up to 128, or does not divide the stripes",
     };
     bool known = refusal < sizeof words / sizeof words[0] && words[refusal] != NULL;
 
@@ -115,25 +117,26 @@ static const uint8_t *block_of(const struct stripe *stripe, size_t member)
 
 static struct irumbolai_owner owner_of(const struct stripe *stripe, size_t member)
 {
-    return irumbolai_owner(stripe->members, stripe->stripes, stripe->volume, stripe->method, stripe->number, member);
+    return irumbolai_owner(stripe->members, stripe->stripes, stripe->volume, stripe->method, stripe->row,
+                           stripe->number, member);
 }
 
 static struct irumbolai_check check_member(const struct stripe *stripe, size_t member)
 {
-    return irumbolai_check(stripe->members, stripe->stripes, stripe->volume, stripe->method, stripe->number, member,
-                           block_of(stripe, member), block_bytes(stripe));
+    return irumbolai_check(stripe->members, stripe->stripes, stripe->volume, stripe->method, stripe->row,
+                           stripe->number, member, block_of(stripe, member), block_bytes(stripe));
 }
 
 static struct irumbolai_verdict scrub(const struct stripe *stripe)
 {
-    return irumbolai_scrub(stripe->members, stripe->stripes, stripe->volume, stripe->method, stripe->number,
-                           stripe->bytes, stripe->length);
+    return irumbolai_scrub(stripe->members, stripe->stripes, stripe->volume, stripe->method, stripe->row,
+                           stripe->number, stripe->bytes, stripe->length);
 }
 
 static struct irumbolai_taken start_scan(const struct stripe *stripe, uint8_t *work, size_t work_length)
 {
-    return irumbolai_start(stripe->members, stripe->stripes, stripe->volume, stripe->method, stripe->number, work,
-                           work_length);
+    return irumbolai_start(stripe->members, stripe->stripes, stripe->volume, stripe->method, stripe->row,
+                           stripe->number, work, work_length);
 }
 
 /* The guard in the tag of a member's block, as it stands there: the highest byte comes first. */
@@ -261,8 +264,9 @@ static enum exit_code look_at(const struct stripe *stripe)
 {
     struct irumbolai_verdict whole = scrub(stripe);
 
-    printf("stripe %" PRIu64 " of %" PRIu64 ", members %zu, volume %u, method %u\n", stripe->number, stripe->stripes,
-           stripe->members, (unsigned)stripe->volume, (unsigned)stripe->method);
+    printf("stripe %" PRIu64 " of %" PRIu64 ", members %zu, volume %u, method %u, row length %u\n", stripe->number,
+           stripe->stripes, stripe->members, (unsigned)stripe->volume, (unsigned)stripe->method,
+           (unsigned)stripe->row);
     if (whole.refusal != 0) {
         show_verdict("scrub", whole);
         return REFUSED;
@@ -327,20 +331,22 @@ static bool read_stripe(const char *path, struct stripe *stripe)
 int main(int argc, char **argv)
 {
     struct stripe stripe;
-    uint64_t members, volume, method;
+    uint64_t members, volume, method, row;
     enum exit_code code;
 
-    if (argc != 7 || !read_number(argv[1], SIZE_MAX, &members) ||
+    if (argc != 8 || !read_number(argv[1], SIZE_MAX, &members) ||
         !read_number(argv[2], UINT64_MAX, &stripe.stripes) || !read_number(argv[3], UINT8_MAX, &volume) ||
-        !read_number(argv[4], UINT8_MAX, &method) || !read_number(argv[5], UINT64_MAX, &stripe.number)) {
-        fprintf(stderr, "usage: rig MEMBERS STRIPES VOLUME METHOD STRIPE FILE\n");
+        !read_number(argv[4], UINT8_MAX, &method) || !read_number(argv[5], UINT8_MAX, &row) ||
+        !read_number(argv[6], UINT64_MAX, &stripe.number)) {
+        fprintf(stderr, "usage: rig MEMBERS STRIPES VOLUME METHOD ROW STRIPE FILE\n");
         return REFUSED;
     }
     stripe.members = (size_t)members;
     stripe.volume = (uint8_t)volume;
     stripe.method = (uint8_t)method;
-    if (!read_stripe(argv[6], &stripe)) {
-        fprintf(stderr, "rig: %s cannot be read\n", argv[6]);
+    stripe.row = (uint8_t)row;
+    if (!read_stripe(argv[7], &stripe)) {
+        fprintf(stderr, "rig: %s cannot be read\n", argv[7]);
         return REFUSED;
     }
 

@@ -1,6 +1,6 @@
 //! The calls of include/irumbolai.h that are measured, of either archive, on the one array of this program.
 
-use crate::stripes::{BLOCK, CRC, MEMBERS, STRIPES, VOLUME, Verdict};
+use crate::stripes::{BLOCK, CRC, MEMBERS, ROW, STRIPES, VOLUME, Verdict};
 
 #[repr(C)]
 struct Answer {
@@ -19,6 +19,7 @@ struct Scan {
     stripes: u64,
     volume: u8,
     method: u8,
+    row: u8,
     stripe: u64,
     at: [u16; 16],
     register: [u32; 16],
@@ -91,10 +92,10 @@ calls! {
     checksum, irumbolai_checksum, "v3_irumbolai_checksum", (bytes: *const u8, length: usize) -> Sum;
     crc32c, irumbolai_crc32c, "v3_irumbolai_crc32c", (bytes: *const u8, length: usize) -> u32;
     join, irumbolai_join, "v3_irumbolai_join", (a: u16, b: u16, length_of_b: u32) -> u16;
-    seal, irumbolai_seal, "v3_irumbolai_seal", (members: usize, stripes: u64, volume: u8, method: u8, stripe: u64, data: *const u8, data_length: usize, bytes: *mut u8, length: usize) -> u32;
-    rebuild, irumbolai_rebuild, "v3_irumbolai_rebuild", (members: usize, stripes: u64, volume: u8, method: u8, stripe: u64, member: usize, bytes: *mut u8, length: usize) -> u32;
-    scrub, irumbolai_scrub, "v3_irumbolai_scrub", (members: usize, stripes: u64, volume: u8, method: u8, stripe: u64, bytes: *const u8, length: usize) -> Answer;
-    start, irumbolai_start, "v3_irumbolai_start", (members: usize, stripes: u64, volume: u8, method: u8, stripe: u64, work: *mut u8, work_length: usize) -> Taken;
+    seal, irumbolai_seal, "v3_irumbolai_seal", (members: usize, stripes: u64, volume: u8, method: u8, row: u8, stripe: u64, data: *const u8, data_length: usize, bytes: *mut u8, length: usize) -> u32;
+    rebuild, irumbolai_rebuild, "v3_irumbolai_rebuild", (members: usize, stripes: u64, volume: u8, method: u8, row: u8, stripe: u64, member: usize, bytes: *mut u8, length: usize) -> u32;
+    scrub, irumbolai_scrub, "v3_irumbolai_scrub", (members: usize, stripes: u64, volume: u8, method: u8, row: u8, stripe: u64, bytes: *const u8, length: usize) -> Answer;
+    start, irumbolai_start, "v3_irumbolai_start", (members: usize, stripes: u64, volume: u8, method: u8, row: u8, stripe: u64, work: *mut u8, work_length: usize) -> Taken;
     piece, irumbolai_piece, "v3_irumbolai_piece", (state: Scan, member: usize, bytes: *const u8, length: usize, work: *mut u8, work_length: usize) -> Taken;
     finish, irumbolai_finish, "v3_irumbolai_finish", (state: Scan, work: *const u8, work_length: usize) -> Answer;
 }
@@ -105,7 +106,7 @@ calls! {
 /// A call on the array of this program, by a guard method. The array's numbers go first, one by one. No call is handed them elsewhere.
 macro_rules! on_array {
     ($archive:ident, $call:ident, $method:expr, $($rest:expr),+) => {
-        unsafe { ($archive::CALLS.$call)(MEMBERS, STRIPES, VOLUME, $method, $($rest),+) }
+        unsafe { ($archive::CALLS.$call)(MEMBERS, STRIPES, VOLUME, $method, ROW, $($rest),+) }
     };
 }
 

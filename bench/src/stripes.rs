@@ -6,6 +6,8 @@ use crate::random::Random;
 pub const MEMBERS: usize = 16;
 pub const STRIPES: u64 = 268_435_456;
 pub const VOLUME: u8 = 7;
+/// How many blocks lie in a row on one member.
+pub const ROW: u8 = 1;
 
 /// The bytes of a block's data, of a block and of a stripe, by methods 1 and 2.
 pub const DATA: usize = 512;

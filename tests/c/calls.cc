@@ -29,57 +29,58 @@ struct Array {
     uint64_t stripes;
     uint8_t volume;
     uint8_t method;
+    uint8_t row;
 };
 
 static struct irumbolai_place place_of(Array array, uint64_t block)
 {
-    return irumbolai_place(array.members, array.stripes, array.volume, array.method, block);
+    return irumbolai_place(array.members, array.stripes, array.volume, array.method, array.row, block);
 }
 
 static struct irumbolai_owner owner_at(Array array, uint64_t stripe, size_t member)
 {
-    return irumbolai_owner(array.members, array.stripes, array.volume, array.method, stripe, member);
+    return irumbolai_owner(array.members, array.stripes, array.volume, array.method, array.row, stripe, member);
 }
 
 static struct irumbolai_check check(Array array, uint64_t stripe, size_t member, const Bytes &block)
 {
-    return irumbolai_check(array.members, array.stripes, array.volume, array.method, stripe, member, block.data(), block.size());
+    return irumbolai_check(array.members, array.stripes, array.volume, array.method, array.row, stripe, member, block.data(), block.size());
 }
 
 static uint32_t seal(Array array, uint64_t stripe, const Bytes &data, Bytes &bytes)
 {
-    return irumbolai_seal(array.members, array.stripes, array.volume, array.method, stripe, data.data(), data.size(), bytes.data(), bytes.size());
+    return irumbolai_seal(array.members, array.stripes, array.volume, array.method, array.row, stripe, data.data(), data.size(), bytes.data(), bytes.size());
 }
 
 static struct irumbolai_read read_block(Array array, uint64_t block, const Bytes &bytes, Bytes &out)
 {
-    return irumbolai_read(array.members, array.stripes, array.volume, array.method, block, bytes.data(), bytes.size(), out.data(), out.size());
+    return irumbolai_read(array.members, array.stripes, array.volume, array.method, array.row, block, bytes.data(), bytes.size(), out.data(), out.size());
 }
 
 static uint32_t rebuild(Array array, uint64_t stripe, size_t member, Bytes &bytes)
 {
-    return irumbolai_rebuild(array.members, array.stripes, array.volume, array.method, stripe, member, bytes.data(), bytes.size());
+    return irumbolai_rebuild(array.members, array.stripes, array.volume, array.method, array.row, stripe, member, bytes.data(), bytes.size());
 }
 
 static uint32_t update(Array array, uint64_t block, const Bytes &data, Bytes &bytes)
 {
-    return irumbolai_update(array.members, array.stripes, array.volume, array.method, block, data.data(), data.size(), bytes.data(), bytes.size());
+    return irumbolai_update(array.members, array.stripes, array.volume, array.method, array.row, block, data.data(), data.size(), bytes.data(), bytes.size());
 }
 
 static struct irumbolai_verdict scrub(Array array, uint64_t stripe, const Bytes &bytes)
 {
-    return irumbolai_scrub(array.members, array.stripes, array.volume, array.method, stripe, bytes.data(), bytes.size());
+    return irumbolai_scrub(array.members, array.stripes, array.volume, array.method, array.row, stripe, bytes.data(), bytes.size());
 }
 
 static struct irumbolai_taken start(Array array, uint64_t stripe, Bytes &work)
 {
-    return irumbolai_start(array.members, array.stripes, array.volume, array.method, stripe, work.data(), work.size());
+    return irumbolai_start(array.members, array.stripes, array.volume, array.method, array.row, stripe, work.data(), work.size());
 }
 
 // The array of the sealed stripe in the table, the same by checksum, and the same in large blocks.
-static const Array three = {3, 1, 7, 1};
-static const Array summed = {3, 1, 7, 2};
-static const Array large = {3, 1, 7, 3};
+static const Array three = {3, 1, 7, 1, 1};
+static const Array summed = {3, 1, 7, 2, 1};
+static const Array large = {3, 1, 7, 3, 1};
 
 // How long the data of a block are, and the whole block.
 static size_t data_length(Array array)
@@ -183,23 +184,110 @@ static void places()
     DUE(irumbolai_remove_zeros(0x8BB7, 2), 1);
     DUE(irumbolai_combine(0x8BB7, 0x9CD9), 0x176E);
 
-    const Array largest = {16, 268435456, 7, 1};
+    const Array largest = {16, 268435456, 7, 1, 1};
     struct irumbolai_place place = place_of(largest, 4026531839);
     DUE(place.refusal, 0);
     DUE(place.member, 14);
     DUE(place.stripe, 268435455);
     DUE(place_of(largest, 4026531840).refusal, 3);
-    DUE(place_of({16, 268435456, 7, 3}, 4026531839).refusal, 0);
-    DUE(place_of({16, 268435456, 7, 3}, 4026531840).refusal, 3);
-    DUE(place_of({16, 268435456, 7, 4}, 4026531840).refusal, 12);
-    DUE(place_of({16, 0, 7, 4}, 4026531840).refusal, 2);
+    DUE(place_of({16, 268435456, 7, 3, 1}, 4026531839).refusal, 0);
+    DUE(place_of({16, 268435456, 7, 3, 1}, 4026531840).refusal, 3);
+    DUE(place_of({16, 268435456, 7, 4, 3}, 4026531840).refusal, 12);
+    DUE(place_of({16, 0, 7, 4, 3}, 4026531840).refusal, 2);
 
-    const Array five = {5, 65537, 7, 2};
+    const Array five = {5, 65537, 7, 2, 1};
     struct irumbolai_owner owner = owner_at(five, 65536, 1);
     DUE(owner.refusal, 0);
     DUE(owner.parity, 1);
     DUE(owner.block, 0x00040000);
     DUE(owner_at(five, 65536, 5).refusal, 5);
+}
+
+static void due_place(Array array, uint64_t block, uint64_t stripe, uint32_t member)
+{
+    const struct irumbolai_place place = place_of(array, block);
+    DUE(place.refusal, 0);
+    DUE(place.stripe, stripe);
+    DUE(place.member, member);
+    const struct irumbolai_owner owner = owner_at(array, stripe, member);
+    DUE(owner.refusal, 0);
+    DUE(owner.parity, 0);
+    DUE(owner.block, block);
+}
+
+static void due_parity(Array array, uint64_t stripe, size_t member, uint64_t lowest)
+{
+    const struct irumbolai_owner owner = owner_at(array, stripe, member);
+    DUE(owner.refusal, 0);
+    DUE(owner.parity, 1);
+    DUE(owner.block, lowest);
+}
+
+// Rows of four in five members: the parity moves on after four stripes.
+static void rows()
+{
+    const Array five = {5, 8, 7, 1, 4};
+    due_place(five, 0, 0, 1);
+    due_place(five, 3, 3, 1);
+    due_place(five, 4, 0, 2);
+    due_place(five, 16, 4, 0);
+    due_place(five, 20, 4, 2);
+    due_place(five, 31, 7, 4);
+    due_parity(five, 3, 0, 3);
+    due_parity(five, 4, 1, 16);
+    due_parity(five, 7, 1, 19);
+    DUE(place_of(five, 32).refusal, 3);
+    DUE(owner_at(five, 8, 0).refusal, 3);
+    due_place({16, 268435456, 7, 3, 128}, 4026531839, 268435455, 14);
+
+    for (uint8_t row : {0, 3, 5, 16, 128, 255}) {
+        const Array none = {5, 8, 7, 1, row};
+        Bytes stripe(5 * 520, 0xFF), work(512, 0xFF);
+        const struct irumbolai_place place = place_of(none, 32);
+        DUE(place.refusal, 13);
+        DUE(place.stripe, 0);
+        DUE(place.member, 0);
+        DUE(owner_at(none, 8, 5).refusal, 13);
+        due_untold(check(none, 8, 5, work), 13, 0);
+        DUE(seal(none, 0, Bytes(4 * 512), stripe), 13);
+        DUE(read_block(none, 0, stripe, work).refusal, 13);
+        DUE(rebuild(none, 0, 0, stripe), 13);
+        DUE(update(none, 0, work, stripe), 13);
+        due_verdict(scrub(none, 8, work), 13, 0, 0, 0);
+        const struct irumbolai_taken taken = start(none, 8, work);
+        DUE(taken.refusal, 13);
+        DUE(taken.state.members, 0);
+        DUE(taken.state.row, 0);
+        DUE(stripe == Bytes(5 * 520, 0xFF), true);
+        DUE(work == Bytes(512, 0xFF), true);
+        DUE(place_of({5, 8, 7, 4, row}, 0).refusal, 12);
+    }
+}
+
+// The last stripe of the first row of two in three members, its tags those of its own blocks.
+static void jobs_in_rows()
+{
+    const Array two = {3, 4, 7, 1, 2};
+    Bytes stripe(3 * 520, 0xFF), out(512, 0xFF), due_bytes = sealed();
+    due_bytes[519] = 1;
+    due_bytes[520 + 519] = 1;
+    due_bytes[2 * 520 + 519] = 3;
+    DUE(seal(two, 1, joined(ending({1}), ending({2})), stripe), 0);
+    DUE(stripe == due_bytes, true);
+    due_verdict(scrub(two, 1, stripe), 0, 0, 0, 0);
+    due_verdict(scrub(two, 0, stripe), 0, 1, 0, 3, "--R");
+    due_verdict(scrub({3, 4, 7, 1, 1}, 1, stripe), 0, 1, 0, 2, "-AR");
+    stripe[520] ^= 0x10;
+    DUE(read_block(two, 1, stripe, out).kind, 1);
+    DUE(out == ending({1}), true);
+    DUE(read_block(two, 3, stripe, out).kind, 0);
+    DUE(out == ending({2}), true);
+    DUE(rebuild(two, 1, 1, stripe), 0);
+    DUE(stripe == due_bytes, true);
+    DUE(update(two, 3, ending({3}), stripe), 0);
+    due_verdict(scrub(two, 1, stripe), 0, 0, 0, 0);
+    DUE(stripe[2 * 520 + 511], 3);
+    DUE(stripe[511], 2);
 }
 
 static void checks()
@@ -224,7 +312,7 @@ static void checks()
     due_field(checked.guard, 0x8BB7, 0x8BB7, 1);
     due_field(checked.application, 7, 7, 1);
     due_field(checked.reference, 0, 1, 0);
-    checked = check({5, 70000, 9, 1}, 65536, 1, joined(ending({3}), {0x12, 0x34, 0x56, 0x78, 0x9A, 0xBC, 0xDE, 0xF0}));
+    checked = check({5, 70000, 9, 1, 1}, 65536, 1, joined(ending({3}), {0x12, 0x34, 0x56, 0x78, 0x9A, 0xBC, 0xDE, 0xF0}));
     DUE(checked.refusal, 0);
     DUE(checked.kind, 1);
     due_field(checked.guard, 0x1234, 0x176E, 0);
@@ -372,7 +460,7 @@ static void large_checks()
     const struct irumbolai_check checked = check(large, 0, 2, block);
     DUE(checked.kind, 1);
     due_field(checked.guard, 0x79C2317E, 0x6A92C28A, 0);
-    due_field(check({16, 268435456, 9, 3}, 268435455, 14, block).reference, 1, 4026531839, 0);
+    due_field(check({16, 268435456, 9, 3, 1}, 268435455, 14, block).reference, 1, 4026531839, 0);
     block.pop_back();
     due_untold(check(large, 0, 2, block), 6, 0);
     due_untold(check(large, 0, 2, Bytes(520)), 6, 0);
@@ -459,8 +547,8 @@ static void scrubs()
     due_verdict(scrub(three, 0, stripe), 0, 1, 1, 2, "GAR");
     stripe[514] = 0;
     due_verdict(scrub(three, 0, stripe), 0, 1, 0, 3, "-A-");
-    due_verdict(scrub({3, 0, 7, 1}, 0, stripe), 2, 0, 0, 0);
-    due_verdict(scrub({3, 1, 7, 0}, 0, stripe), 12, 0, 0, 0);
+    due_verdict(scrub({3, 0, 7, 1, 1}, 0, stripe), 2, 0, 0, 0);
+    due_verdict(scrub({3, 1, 7, 0, 1}, 0, stripe), 12, 0, 0, 0);
     stripe = torn({0x01, 0x8B, 0xB7}, 0, 0);
     due_verdict(scrub(three, 0, stripe), 0, 2, 509, 0);
 
@@ -502,7 +590,7 @@ static void wide_scrubs()
 static void states()
 {
     Bytes work(512, 0xFF), piece = joined(ending({2}), {0xA1, 0xB2, 0xC3});
-    struct irumbolai_taken taken = start({5, 70000, 7, 1}, 65536, work);
+    struct irumbolai_taken taken = start({5, 70000, 7, 1, 8}, 65536, work);
     DUE(taken.refusal, 0);
     DUE(work == Bytes(512), true);
     taken = irumbolai_piece(taken.state, 4, piece.data(), piece.size(), work.data(), work.size());
@@ -512,6 +600,7 @@ static void states()
         DUE(taken.state.stripes, 70000);
         DUE(taken.state.volume, 7);
         DUE(taken.state.method, 1);
+        DUE(taken.state.row, 8);
         DUE(taken.state.stripe, 65536);
         for (int i = 0; i < 16; i++) {
             DUE(taken.state.at[i], i == 4 ? 515 : 0);
@@ -531,6 +620,13 @@ static void states()
     taken.state.method = 3;
     due_verdict(irumbolai_finish(taken.state, work.data(), work.size()), 6, 0, 0, 0);
     taken.state.method = 1;
+    for (uint8_t row : {0, 3, 32, 255}) {
+        taken.state.row = row;
+        due_verdict(irumbolai_finish(taken.state, work.data(), work.size()), 4, 0, 0, 0);
+        DUE(irumbolai_piece(taken.state, 4, piece.data(), 0, work.data(), work.size()).refusal, 4);
+    }
+    taken.state.row = 8;
+    due_verdict(irumbolai_finish(taken.state, work.data(), work.size()), 8, 0, 0, 0);
     taken.state.members = 2;
     due_verdict(irumbolai_finish(taken.state, work.data(), work.size()), 4, 0, 0, 0);
 }
@@ -539,12 +635,13 @@ static void states()
 static void large_states()
 {
     Bytes work(4096, 0xFF), piece = joined(ending({2}, 4096), {0xA1, 0xB2, 0xC3}), small(512, 0xFF);
-    const struct irumbolai_taken refused = start({5, 70000, 7, 3}, 65536, small);
+    const struct irumbolai_taken refused = start({5, 70000, 7, 3, 16}, 65536, small);
     DUE(refused.refusal, 6);
     DUE(refused.state.method, 0);
+    DUE(refused.state.row, 0);
     DUE(refused.state.register_[0], 0);
     DUE(small == Bytes(512, 0xFF), true);
-    struct irumbolai_taken taken = start({5, 70000, 7, 3}, 65536, work);
+    struct irumbolai_taken taken = start({5, 70000, 7, 3, 16}, 65536, work);
     DUE(taken.refusal, 0);
     DUE(work == Bytes(4096), true);
     for (int i = 0; i < 16; i++)
@@ -553,6 +650,7 @@ static void large_states()
     for (int again = 0; again < 2; again++) {
         DUE(taken.refusal, again == 0 ? 0 : 7);
         DUE(taken.state.method, 3);
+        DUE(taken.state.row, 16);
         DUE(taken.state.stripe, 65536);
         for (int i = 0; i < 16; i++) {
             DUE(taken.state.at[i], i == 4 ? 4099 : 0);
@@ -582,7 +680,7 @@ static void waiting()
 {
     Bytes work(512, 0xFF);
     const Bytes piece = {0x12, 0x34, 0x56}, last = {0x78};
-    struct irumbolai_taken taken = start({5, 70000, 7, 2}, 65536, work);
+    struct irumbolai_taken taken = start({5, 70000, 7, 2, 1}, 65536, work);
     DUE(taken.refusal, 0);
     DUE(taken.state.method, 2);
     for (int i = 0; i < 16; i++)
@@ -620,7 +718,7 @@ static void registers()
 {
     const Bytes none = {0};
     for (uint8_t method = 1; method <= 3; method++) {
-        const Array five = {5, 70000, 7, method};
+        const Array five = {5, 70000, 7, method, 4};
         Bytes work(data_length(five), 0xFF);
         const struct irumbolai_scan fit = start(five, 65536, work).state;
         for (int member = 0; member < 16; member++)
@@ -655,8 +753,10 @@ static struct irumbolai_verdict scanned(const Bytes &stripe, Array array = three
 int main()
 {
     places();
+    rows();
     checks();
     jobs();
+    jobs_in_rows();
     jobs_by_sum();
     large_checks();
     large_jobs();

@@ -123,6 +123,7 @@ impl Figures {
                 members: 3,
                 stripes: 1,
                 method,
+                row: 1,
                 ..Scan::ZEROS
             };
             let finished = scan::finish(&state, &[0; DATA]);
@@ -473,6 +474,128 @@ impl Figures {
         self.due("17 members", array(17, 1).place(0), Err(1))
     }
 
+    /// Rows of four in five members, two groups of them: worked by hand.
+    fn rows(&mut self) -> Result<(), String> {
+        let at = |stripe, member| Ok(Place { stripe, member });
+        let five = in_rows(5, 8, 4);
+        for (block, due) in [
+            (0, at(0, 1)),
+            (3, at(3, 1)),
+            (4, at(0, 2)),
+            (15, at(3, 4)),
+            (16, at(4, 0)),
+            (20, at(4, 2)),
+            (31, at(7, 4)),
+            (32, Err(3)),
+        ] {
+            self.due("place, in rows of 4", five.place(block), due)?;
+        }
+        let parity = |lowest| Ok(Owner::Parity { lowest });
+        for (stripe, member, due) in [
+            (0, 0, parity(0)),
+            (3, 0, parity(3)),
+            (4, 1, parity(16)),
+            (7, 1, parity(19)),
+            (7, 0, Ok(Owner::Data { block: 19 })),
+            (8, 1, Err(3)),
+        ] {
+            let owner = five.owner(stripe, member);
+            self.due("owner, in rows of 4", owner, due)?;
+        }
+        self.due(
+            "the blocks of stripe 3",
+            five.blocks_of(3),
+            vec![3, 7, 11, 15],
+        )?;
+        self.due(
+            "tag of the parity of stripe 7",
+            &stripe::due(&five, 7, 1, 0)[2..],
+            &[0x80, 7, 0, 0, 0, 19],
+        )?;
+        let largest = in_rows(16, 268_435_456, 128);
+        for (block, due) in [
+            (1_920, at(128, 0)),
+            (4_026_531_838, at(268_435_454, 14)),
+            (4_026_531_839, at(268_435_455, 14)),
+            (4_026_531_840, Err(3)),
+        ] {
+            self.due("place, in rows of 128", largest.place(block), due)?;
+        }
+        let three = in_rows(3, 2, 2);
+        let header = [
+            0x00, 0x09, 0x03, 0x03, 0x07, 0x00, 0x00, 0x00, 0x02, 0x01, 0x02,
+        ];
+        self.due("header 3", &report::header(&three)[..], &header)?;
+        let zeros = |stripe| {
+            let (data, room) = ([0; 2 * DATA], [0; 3 * BLOCK]);
+            stripe::seal(&three, stripe, &data, &room).expect("numbers that fit")
+        };
+        let image = [&header[..], &zeros(0), &zeros(1)].concat();
+        self.due(
+            "parity of stripe 1",
+            &image[11 + 3 * BLOCK + 514..][..6],
+            &[0x80, 7, 0, 0, 0, 1],
+        )?;
+        for (last, due) in [
+            (
+                2,
+                "0 CLEAN\n1 CLEAN\nTOTAL 2 clean 2 bad 0 unchecked 0 torn 0\n",
+            ),
+            (
+                1,
+                "0 BAD 2 1 --R\n1 BAD 0 2 -AR\nTOTAL 2 clean 0 bad 2 unchecked 0 torn 0\n",
+            ),
+        ] {
+            let mut image = image.clone();
+            image[10] = last;
+            let due = format!("SCRUB v1 members 3 stripes 2\n{due}");
+            self.due("report, version 3", report::report(&image), due)?;
+        }
+        for length in 0..header.len() {
+            let report = report::report(&header[..length]);
+            self.due("short", report, String::from("REFUSED 10\n"))?;
+        }
+        Ok(())
+    }
+
+    /// A row length that is none, or does not divide the stripes, is refused after the method, and before all else.
+    fn no_rows(&mut self) -> Result<(), String> {
+        for row in [0, 3, 4, 5, 8, 128, 255] {
+            let none = in_rows(3, 6, row);
+            self.due("no row length", none.fits(), Err(13))?;
+            let few = Array { members: 2, ..none };
+            self.due("few members go first", few.fits(), Err(1))?;
+            let far = Array { stripes: 0, ..none };
+            self.due("no stripes go first", far.fits(), Err(2))?;
+            let no_method = Array { method: 4, ..none };
+            self.due("no method goes first", no_method.fits(), Err(12))?;
+            self.due("a far block goes later", none.place(12), Err(13))?;
+            self.due("a far stripe goes later", none.owner(6, 3), Err(13))?;
+            let scrubbed = stripe::scrub(&none, 0, &[]);
+            self.due("a wrong length goes later", scrubbed, Err(13))?;
+            let started = scan::start(&none, 0, &[0; DATA]);
+            self.due("start, no row length", started, Err(13))?;
+            let state = Scan {
+                members: 3,
+                stripes: 6,
+                method: 1,
+                row,
+                ..Scan::ZEROS
+            };
+            let finished = scan::finish(&state, &[0; DATA]);
+            self.due("finish, no row length", finished, Err(4))?;
+            let piece = scan::piece(&state, 3, &[], &[]);
+            self.due("piece, no row length", piece, Err(4))?;
+            let image = [&report::header_of(3, &none)[..], &sealed()].concat();
+            let due = String::from("REFUSED 13\n");
+            self.due("header, no row length", report::report(&image), due)?;
+        }
+        for row in [1, 2, 4, 8, 16, 32, 64, 128] {
+            self.due("a row length", in_rows(3, 384, row).fits(), Ok(()))?;
+        }
+        Ok(())
+    }
+
     fn sealed_stripe(&mut self) -> Result<(), String> {
         let three = array(3, 1);
         let sealed = sealed();
@@ -686,6 +809,15 @@ fn array(members: usize, stripes: u64) -> Array {
         stripes,
         volume: 7,
         method: 1,
+        row: 1,
+    }
+}
+
+/// The same array in rows of this length.
+fn in_rows(members: usize, stripes: u64, row: u8) -> Array {
+    Array {
+        row,
+        ..array(members, stripes)
     }
 }
 
@@ -768,6 +900,8 @@ pub fn check(random: &mut Random) -> Result<String, String> {
     figures.large_pieces()?;
     figures.joins()?;
     figures.places()?;
+    figures.rows()?;
+    figures.no_rows()?;
     figures.sealed_stripe()?;
     figures.report()?;
     figures.torn_stripes()?;

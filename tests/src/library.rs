@@ -101,17 +101,17 @@ mod c {
         pub fn irumbolai_add_zeros(guard: u16, n: u32) -> u16;
         pub fn irumbolai_remove_zeros(guard: u16, n: u32) -> u16;
         pub fn irumbolai_combine(a: u16, b: u16) -> u16;
-        pub fn irumbolai_place(members: usize, stripes: u64, volume: u8, method: u8, block: u64) -> Place;
-        pub fn irumbolai_owner(members: usize, stripes: u64, volume: u8, method: u8, stripe: u64, member: usize) -> Owner;
-        pub fn irumbolai_check(members: usize, stripes: u64, volume: u8, method: u8, stripe: u64, member: usize, block: *const u8, length: usize) -> Check;
-        pub fn irumbolai_seal(members: usize, stripes: u64, volume: u8, method: u8, stripe: u64, data: *const u8, data_length: usize, bytes: *mut u8, length: usize) -> u32;
-        pub fn irumbolai_read(members: usize, stripes: u64, volume: u8, method: u8, block: u64, bytes: *const u8, length: usize, out: *mut u8, out_length: usize) -> Read;
-        pub fn irumbolai_rebuild(members: usize, stripes: u64, volume: u8, method: u8, stripe: u64, member: usize, bytes: *mut u8, length: usize) -> u32;
-        pub fn irumbolai_update(members: usize, stripes: u64, volume: u8, method: u8, block: u64, data: *const u8, data_length: usize, bytes: *mut u8, length: usize) -> u32;
-        pub fn irumbolai_scrub(members: usize, stripes: u64, volume: u8, method: u8, stripe: u64, bytes: *const u8, length: usize) -> Verdict;
+        pub fn irumbolai_place(members: usize, stripes: u64, volume: u8, method: u8, row: u8, block: u64) -> Place;
+        pub fn irumbolai_owner(members: usize, stripes: u64, volume: u8, method: u8, row: u8, stripe: u64, member: usize) -> Owner;
+        pub fn irumbolai_check(members: usize, stripes: u64, volume: u8, method: u8, row: u8, stripe: u64, member: usize, block: *const u8, length: usize) -> Check;
+        pub fn irumbolai_seal(members: usize, stripes: u64, volume: u8, method: u8, row: u8, stripe: u64, data: *const u8, data_length: usize, bytes: *mut u8, length: usize) -> u32;
+        pub fn irumbolai_read(members: usize, stripes: u64, volume: u8, method: u8, row: u8, block: u64, bytes: *const u8, length: usize, out: *mut u8, out_length: usize) -> Read;
+        pub fn irumbolai_rebuild(members: usize, stripes: u64, volume: u8, method: u8, row: u8, stripe: u64, member: usize, bytes: *mut u8, length: usize) -> u32;
+        pub fn irumbolai_update(members: usize, stripes: u64, volume: u8, method: u8, row: u8, block: u64, data: *const u8, data_length: usize, bytes: *mut u8, length: usize) -> u32;
+        pub fn irumbolai_scrub(members: usize, stripes: u64, volume: u8, method: u8, row: u8, stripe: u64, bytes: *const u8, length: usize) -> Verdict;
         pub fn irumbolai_quick_scrub(guards: *const u16, count: usize) -> Quick;
         pub fn irumbolai_quick_scrub_wide(guards: *const u32, count: usize) -> Quick;
-        pub fn irumbolai_start(members: usize, stripes: u64, volume: u8, method: u8, stripe: u64, work: *mut u8, work_length: usize) -> Taken;
+        pub fn irumbolai_start(members: usize, stripes: u64, volume: u8, method: u8, row: u8, stripe: u64, work: *mut u8, work_length: usize) -> Taken;
         pub fn irumbolai_piece(state: Scan, member: usize, bytes: *const u8, length: usize, work: *mut u8, work_length: usize) -> Taken;
         pub fn irumbolai_finish(state: Scan, work: *const u8, work_length: usize) -> Verdict;
     }
@@ -123,7 +123,7 @@ mod c {
 /// A call on an array, whose numbers go first, one by one. No call is handed them elsewhere.
 macro_rules! on_array {
     ($call:ident, $array:ident, $($rest:expr),+) => {
-        unsafe { c::$call($array.members, $array.stripes, $array.volume, $array.method, $($rest),+) }
+        unsafe { c::$call($array.members, $array.stripes, $array.volume, $array.method, $array.row, $($rest),+) }
     };
 }
 

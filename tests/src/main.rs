@@ -22,6 +22,7 @@ const PARTS: &[(&str, Comparison)] = &[
     ("crc32c", compare::crc32c::compare),
     ("join", compare::join::compare),
     ("layout", compare::layout::compare),
+    ("md", compare::md::compare),
     ("tag", compare::tag::compare),
     ("kernel", compare::kernel::compare),
     ("stripe", compare::stripe::compare),

@@ -1,4 +1,5 @@
-//! Writes a small image to standard output: five members and a stripe for each kind of verdict, by the method that is named, 1, 2 or 3.
+//! Writes a small image to standard output: five members and a stripe for each kind of verdict, by the method that is named, 1, 2 or 3. With a row length
+//! its header is of the version that can say one, and more stripes follow, clean, until the rows are whole.
 
 use model::layout::Array;
 use model::report;
@@ -6,13 +7,42 @@ use model::stripe::{self, UNCHECKED};
 use std::env;
 use std::io::{self, Write};
 
-/// The array of a method. Methods 2 and 3 have something of their own that can go wrong, and a stripe for it.
-fn array_of(method: u8) -> Array {
+/// The array of a method and a row length. Methods 2 and 3 have something of their own that can go wrong, and a stripe for it.
+fn array_of(method: u8, row: u8) -> Array {
+    let kinds: u64 = if method == 1 { 6 } else { 7 };
     Array {
         members: 5,
-        stripes: if method == 1 { 6 } else { 7 },
+        stripes: kinds.next_multiple_of(row.into()),
         volume: 7,
         method,
+        row,
+    }
+}
+
+/// The method and, where one is named, the row length, if they are such.
+fn numbers(words: &[String]) -> Option<(u8, Option<u8>)> {
+    let (method, row) = match words {
+        [method] => (method, None),
+        [method, row] => (method, Some(row.parse().ok()?)),
+        _ => return None,
+    };
+    let method = method.parse().ok()?;
+    let method_fits = array_of(method, 1).fits().is_ok();
+    let row_fits = row.is_none_or(u8::is_power_of_two);
+    (method_fits && row_fits).then_some((method, row))
+}
+
+/// An array and the header of its image.
+fn array_and_header(method: u8, row: Option<u8>) -> (Array, Vec<u8>) {
+    match row {
+        Some(row) => {
+            let array = array_of(method, row);
+            (array, report::header_of(3, &array))
+        }
+        None => {
+            let array = array_of(method, 1);
+            (array, report::header(&array))
+        }
     }
 }
 
@@ -62,13 +92,13 @@ fn damage(array: &Array, number: u64, bytes: &mut [u8]) {
 }
 
 fn main() -> io::Result<()> {
-    let array = match env::args().skip(1).collect::<Vec<_>>()[..] {
-        [ref method] if method == "1" => array_of(1),
-        [ref method] if method == "2" => array_of(2),
-        [ref method] if method == "3" => array_of(3),
-        _ => return Err(io::Error::other("one word wanted: the method, 1, 2 or 3")),
-    };
-    let mut image = report::header(&array);
+    let words: Vec<String> = env::args().skip(1).collect();
+    let (method, row) = numbers(&words).ok_or_else(|| {
+        io::Error::other(
+            "wanted: the method, 1, 2 or 3, and then perhaps a row length, 1, 2, 4 up to 128",
+        )
+    })?;
+    let (array, mut image) = array_and_header(method, row);
     for number in 0..array.stripes {
         let mut bytes = sealed(&array, number);
         damage(&array, number, &mut bytes);

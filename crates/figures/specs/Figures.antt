@@ -18,7 +18,11 @@ done stripe member = 1 ∷ 0 ∷ stripe ∷ member ∷ []
 
 -- five members, as many stripes as an array can have
 abbrev pub five : Array
-five = arrayOf 5 268435456 0 1
+five = arrayOf 5 268435456 0 1 1
+
+-- the same in eight stripes, in rows of four
+abbrev pub fours : Array
+fours = arrayOf 5 8 0 1 4
 
 pub record Bench : Type 0 where
   pub guard-none : guard [] ≡ 0x0000
@@ -35,6 +39,10 @@ pub record Bench : Type 0 where
   pub place-below-sixteen-bits : placeNumbers five 65535 ≡ done 16383 4
   pub place-above-sixteen-bits : placeNumbers five 65536 ≡ done 16384 0
   pub reference-above-sixteen-bits : bytesOf 4 (referenceDue five 16384 0) ≡ 0x00 ∷ 0x01 ∷ 0x00 ∷ 0x00 ∷ []
+  pub place-in-row : placeNumbers fours 3 ≡ done 3 1
+  pub place-next-member : placeNumbers fours 4 ≡ done 0 2
+  pub place-next-row : placeNumbers fours 16 ≡ done 4 0
+  pub place-last-of-rows : placeNumbers fours 31 ≡ done 7 4
   pub combined : combination 1 ((0x9 ∷ []) ∷ (0x4 ∷ []) ∷ (0x8 ∷ []) ∷ (0xC ∷ []) ∷ []) ≡ 0x9 ∷ []
 
 pub bench : Bench
@@ -55,5 +63,9 @@ bench =
       place-below-sixteen-bits = refl;
       place-above-sixteen-bits = refl;
       reference-above-sixteen-bits = refl;
+      place-in-row = refl;
+      place-next-member = refl;
+      place-next-row = refl;
+      place-last-of-rows = refl;
       combined = refl;
     }

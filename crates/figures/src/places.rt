@@ -10,27 +10,46 @@ const MOST: u64 = 268435456;
 
 pub fn bench() {
     io::write_all(STDOUT_FILENO, b"\nplace of                     is\n");
-    place(b"n 5, L 0                     ", 5, 0);
-    place(b"n 5, L 3                     ", 5, 3);
-    place(b"n 5, L 4                     ", 5, 4);
-    place(b"n 5, L 5                     ", 5, 5);
-    place(b"n 5, L 65535                 ", 5, 65535);
-    place(b"n 5, L 65536                 ", 5, 65536);
-    owner(b"n 5, stripe 65536, member 1  ", 5, 65536, 1);
-    place(b"n 16, L 4026531839           ", 16, 4026531839);
-    place(b"n 16, L 4026531840           ", 16, 4026531840);
-    place(b"n 2, L 0                     ", 2, 0);
-    place(b"n 17, L 0                    ", 17, 0);
+    place(b"n 5, L 0                     ", array(5), 0);
+    place(b"n 5, L 3                     ", array(5), 3);
+    place(b"n 5, L 4                     ", array(5), 4);
+    place(b"n 5, L 5                     ", array(5), 5);
+    place(b"n 5, L 65535                 ", array(5), 65535);
+    place(b"n 5, L 65536                 ", array(5), 65536);
+    owner(b"n 5, stripe 65536, member 1  ", array(5), 65536, 1);
+    place(b"n 16, L 4026531839           ", array(16), 4026531839);
+    place(b"n 16, L 4026531840           ", array(16), 4026531840);
+    place(b"n 2, L 0                     ", array(2), 0);
+    place(b"n 17, L 0                    ", array(17), 0);
 }
 
 fn array(members: usize) -> Array {
-    layout::array_of(members, MOST, 0, 1)
+    layout::array_of(members, MOST, 0, 1, 1)
+}
+
+// Rows of four stripes, in which a member holds four successive blocks; and a row length that there is not.
+pub fn rows() {
+    let fours = layout::array_of(5, 8, 0, 1, 4);
+    io::write_all(STDOUT_FILENO, b"\nn 5, S 8, c 4, place of      is\n");
+    place(b"L 0                          ", fours, 0);
+    place(b"L 3                          ", fours, 3);
+    place(b"L 4                          ", fours, 4);
+    place(b"L 16                         ", fours, 16);
+    place(b"L 31                         ", fours, 31);
+    place(b"L 32                         ", fours, 32);
+    owner(b"stripe 3, member 1           ", fours, 3, 1);
+    owner(b"stripe 4, member 1           ", fours, 4, 1);
+    place(
+        b"c 3, L 0                     ",
+        layout::array_of(5, 9, 0, 1, 3),
+        0,
+    );
 }
 
 // One line: what is given, and its stripe and member, or the refusal.
-fn place(given: &[u8], members: usize, block: u64) {
+fn place(given: &[u8], array: Array, block: u64) {
     io::write_all(STDOUT_FILENO, given);
-    let placed = layout::place(array(members), block);
+    let placed = layout::place(array, block);
     match placed {
         Placed::Refused(number) => named(b"refusal ", number as u64),
         Placed::At { stripe, member } => {
@@ -42,9 +61,9 @@ fn place(given: &[u8], members: usize, block: u64) {
 }
 
 // One line: what is given, and the block or the parity there with its reference, or the refusal.
-fn owner(given: &[u8], members: usize, stripe: u64, member: usize) {
+fn owner(given: &[u8], array: Array, stripe: u64, member: usize) {
     io::write_all(STDOUT_FILENO, given);
-    let owned = layout::owner(array(members), stripe, member);
+    let owned = layout::owner(array, stripe, member);
     match owned {
         Owned::Refused(number) => named(b"refusal ", number as u64),
         Owned::Parity { lowest } => named(b"parity, reference ", lowest),

@@ -5,7 +5,7 @@ use scan::Scan;
 
 pub fn pieces() {
     io::write_all(STDOUT_FILENO, b"\npiece for member 0           refusal\n");
-    let array = layout::array_of(3, 1, 7, 1);
+    let array = layout::array_of(3, 1, 7, 1, 1);
     let mut work = [0u8; 512];
     let block = [0u8; 520];
     let begun = scan::start(array, 0, &mut work);

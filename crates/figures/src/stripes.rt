@@ -13,7 +13,7 @@ ghost use Prim.Native.Nat.{_≤_};
 
 // Three members, one stripe, volume 7.
 fn three(method: u8) -> Array {
-    layout::array_of(3, 1, 7, method)
+    layout::array_of(3, 1, 7, method, 1)
 }
 
 // Data zero but for the last bytes 01 and 02; then block 0 updated to zeros; then its application tag set to FFFFh; then the

@@ -22,7 +22,7 @@ use Rattle.irumbolai.specs.declared.ScanState.{ScanState}
 abbrev pub scanOf : ScanState → Scan
 scanOf s =
     record {
-      array = arrayOf (s .members) (s .stripes) (s .volume) (s .method);
+      array = arrayOf (s .members) (s .stripes) (s .volume) (s .method) (s .row);
       stripe = s .stripe;
       at = s .at;
       register = s .register;

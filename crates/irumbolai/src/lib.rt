@@ -100,6 +100,7 @@ pub struct ScanState {
     pub stripes: u64,
     pub volume: u8,
     pub method: u8,
+    pub row: u8,
     pub stripe: u64,
     pub at: [u16; 16],
     pub register: [u32; 16],

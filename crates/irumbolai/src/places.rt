@@ -41,11 +41,12 @@ pub extern "C" fn irumbolai_place(
     stripes: u64,
     volume: u8,
     method: u8,
+    row: u8,
     block: u64,
 ) -> PlaceAnswer
-    ensures { λ r. ⌜ placeFields r ≡ unflagged (placeNumbers (arrayOf members stripes volume method) block) ⌝ }
+    ensures { λ r. ⌜ placeFields r ≡ unflagged (placeNumbers (arrayOf members stripes volume method row) block) ⌝ }
 {
-    let array = layout::array_of(members, stripes, volume, method);
+    let array = layout::array_of(members, stripes, volume, method, row);
     place_answer(layout::place(array, block))
 }
 
@@ -82,11 +83,12 @@ pub extern "C" fn irumbolai_owner(
     stripes: u64,
     volume: u8,
     method: u8,
+    row: u8,
     stripe: u64,
     member: usize,
 ) -> OwnerAnswer
-    ensures { λ r. ⌜ ownerFields r ≡ unflagged (ownerNumbers (arrayOf members stripes volume method) stripe member) ⌝ }
+    ensures { λ r. ⌜ ownerFields r ≡ unflagged (ownerNumbers (arrayOf members stripes volume method row) stripe member) ⌝ }
 {
-    let array = layout::array_of(members, stripes, volume, method);
+    let array = layout::array_of(members, stripes, volume, method, row);
     owner_answer(layout::owner(array, stripe, member))
 }

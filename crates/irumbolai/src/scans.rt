@@ -22,7 +22,13 @@ ghost use Rattle.irumbolai.specs.Answers.{scanOf, unflagged, verdictFiel
 fn scan_of(state: ScanState) -> Scan
     ensures { λ r. ⌜ r ≡ scanOf state ⌝ }
 {
-    let array = layout::array_of(state.members, state.stripes, state.volume, state.method);
+    let array = layout::array_of(
+        state.members,
+        state.stripes,
+        state.volume,
+        state.method,
+        state.row,
+    );
     let at = state.at;
     let register = state.register;
     let waiting = state.waiting;
@@ -51,6 +57,7 @@ fn state_of(scan: Scan) -> ScanState
         stripes: array.stripes,
         volume: array.volume,
         method: array.method,
+        row: array.row,
         stripe: scan.stripe,
         at,
         register,
@@ -66,14 +73,15 @@ pub extern "C" fn irumbolai_start(
     stripes: u64,
     volume: u8,
     method: u8,
+    row: u8,
     stripe: u64,
     work: &mut [u8],
 ) -> TakenAnswer
-    ensures { λ r. ⌜ r .refusal ≡ startRefusal (arrayOf members stripes volume method) stripe (length (now (work .entry))) ⌝ }
-    ensures { λ r. ⌜ scanOf (r .state) ≡ startState (arrayOf members stripes volume method) stripe (length (now (work .entry))) ⌝ }
-    ensures { λ _. ⌜ now (work .exit) ≡ startWork (arrayOf members stripes volume method) stripe (now (work .entry)) ⌝ }
+    ensures { λ r. ⌜ r .refusal ≡ startRefusal (arrayOf members stripes volume method row) stripe (length (now (work .entry))) ⌝ }
+    ensures { λ r. ⌜ scanOf (r .state) ≡ startState (arrayOf members stripes volume method row) stripe (length (now (work .entry))) ⌝ }
+    ensures { λ _. ⌜ now (work .exit) ≡ startWork (arrayOf members stripes volume method row) stripe (now (work .entry)) ⌝ }
 {
-    let array = layout::array_of(members, stripes, volume, method);
+    let array = layout::array_of(members, stripes, volume, method, row);
     let taken = scan::start(array, stripe, work);
     let refusal = taken.refusal as u32;
     let next = taken.state;

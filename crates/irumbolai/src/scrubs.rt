@@ -18,12 +18,13 @@ pub extern "C" fn irumbolai_scrub(
     stripes: u64,
     volume: u8,
     method: u8,
+    row: u8,
     stripe: u64,
     bytes: &[u8],
 ) -> VerdictAnswer
-    ensures { λ r. ⌜ verdictFields r ≡ spread (unflagged (scrubNumbers (arrayOf members stripes volume method) stripe (now (bytes .entry)))) ⌝ }
+    ensures { λ r. ⌜ verdictFields r ≡ spread (unflagged (scrubNumbers (arrayOf members stripes volume method row) stripe (now (bytes .entry)))) ⌝ }
 {
-    let array = layout::array_of(members, stripes, volume, method);
+    let array = layout::array_of(members, stripes, volume, method, row);
     verdict_answer(stripe::scrub(array, stripe, bytes))
 }
 

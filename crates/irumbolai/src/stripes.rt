@@ -97,13 +97,14 @@ pub extern "C" fn irumbolai_check(
     stripes: u64,
     volume: u8,
     method: u8,
+    row: u8,
     stripe: u64,
     member: usize,
     block: &[u8],
 ) -> CheckAnswer
-    ensures { λ r. ⌜ checkFields r ≡ unflagged (checkNumbers (arrayOf members stripes volume method) stripe member (now (block .entry))) ⌝ }
+    ensures { λ r. ⌜ checkFields r ≡ unflagged (checkNumbers (arrayOf members stripes volume method row) stripe member (now (block .entry))) ⌝ }
 {
-    let array = layout::array_of(members, stripes, volume, method);
+    let array = layout::array_of(members, stripes, volume, method, row);
     check_answer(tag::check(array, stripe, member, block))
 }
 
@@ -114,14 +115,15 @@ pub extern "C" fn irumbolai_seal(
     stripes: u64,
     volume: u8,
     method: u8,
+    row: u8,
     stripe: u64,
     content: &[u8],
     bytes: &mut [u8],
 ) -> u32
-    ensures { λ r. ⌜ r ≡ sealRefusal (arrayOf members stripes volume method) stripe (length (now (content .entry))) (length (now (bytes .entry))) ⌝ }
-    ensures { λ _. ⌜ now (bytes .exit) ≡ sealBytes (arrayOf members stripes volume method) stripe (now (content .entry)) (now (bytes .entry)) ⌝ }
+    ensures { λ r. ⌜ r ≡ sealRefusal (arrayOf members stripes volume method row) stripe (length (now (content .entry))) (length (now (bytes .entry))) ⌝ }
+    ensures { λ _. ⌜ now (bytes .exit) ≡ sealBytes (arrayOf members stripes volume method row) stripe (now (content .entry)) (now (bytes .entry)) ⌝ }
 {
-    let array = layout::array_of(members, stripes, volume, method);
+    let array = layout::array_of(members, stripes, volume, method, row);
     stripe::seal(array, stripe, content, bytes) as u32
 }
 
@@ -156,14 +158,15 @@ pub extern "C" fn irumbolai_read(
     stripes: u64,
     volume: u8,
     method: u8,
+    row: u8,
     block: u64,
     bytes: &[u8],
     out: &mut [u8],
 ) -> ReadAnswer
-    ensures { λ r. ⌜ readFields r ≡ unflagged (readNumbers (arrayOf members stripes volume method) block (now (bytes .entry)) (length (now (out .entry)))) ⌝ }
-    ensures { λ _. ⌜ now (out .exit) ≡ readOut (arrayOf members stripes volume method) block (now (bytes .entry)) (now (out .entry)) ⌝ }
+    ensures { λ r. ⌜ readFields r ≡ unflagged (readNumbers (arrayOf members stripes volume method row) block (now (bytes .entry)) (length (now (out .entry)))) ⌝ }
+    ensures { λ _. ⌜ now (out .exit) ≡ readOut (arrayOf members stripes volume method row) block (now (bytes .entry)) (now (out .entry)) ⌝ }
 {
-    let array = layout::array_of(members, stripes, volume, method);
+    let array = layout::array_of(members, stripes, volume, method, row);
     read_answer(stripe::read(array, block, bytes, out))
 }
 
@@ -174,14 +177,15 @@ pub extern "C" fn irumbolai_rebuild(
     stripes: u64,
     volume: u8,
     method: u8,
+    row: u8,
     stripe: u64,
     member: usize,
     bytes: &mut [u8],
 ) -> u32
-    ensures { λ r. ⌜ r ≡ rebuildRefusal (arrayOf members stripes volume method) stripe member (now (bytes .entry)) ⌝ }
-    ensures { λ _. ⌜ now (bytes .exit) ≡ rebuildBytes (arrayOf members stripes volume method) stripe member (now (bytes .entry)) ⌝ }
+    ensures { λ r. ⌜ r ≡ rebuildRefusal (arrayOf members stripes volume method row) stripe member (now (bytes .entry)) ⌝ }
+    ensures { λ _. ⌜ now (bytes .exit) ≡ rebuildBytes (arrayOf members stripes volume method row) stripe member (now (bytes .entry)) ⌝ }
 {
-    let array = layout::array_of(members, stripes, volume, method);
+    let array = layout::array_of(members, stripes, volume, method, row);
     stripe::rebuild(array, stripe, member, bytes) as u32
 }
 
@@ -192,13 +196,14 @@ pub extern "C" fn irumbolai_update(
     stripes: u64,
     volume: u8,
     method: u8,
+    row: u8,
     block: u64,
     content: &[u8],
     bytes: &mut [u8],
 ) -> u32
-    ensures { λ r. ⌜ r ≡ updateRefusal (arrayOf members stripes volume method) block (length (now (content .entry))) (now (bytes .entry)) ⌝ }
-    ensures { λ _. ⌜ now (bytes .exit) ≡ updateBytes (arrayOf members stripes volume method) block (now (content .entry)) (now (bytes .entry)) ⌝ }
+    ensures { λ r. ⌜ r ≡ updateRefusal (arrayOf members stripes volume method row) block (length (now (content .entry))) (now (bytes .entry)) ⌝ }
+    ensures { λ _. ⌜ now (bytes .exit) ≡ updateBytes (arrayOf members stripes volume method row) block (now (content .entry)) (now (bytes .entry)) ⌝ }
 {
-    let array = layout::array_of(members, stripes, volume, method);
+    let array = layout::array_of(members, stripes, volume, method, row);
     stripe::update(array, block, content, bytes) as u32
 }

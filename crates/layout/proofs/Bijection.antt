@@ -1,21 +1,36 @@
 -- Blocks and places: there and back, both ways. Every place of a stripe is its parity's or exactly one block's, and what lies at a place
 -- tells the place. Assumes nothing.
 use mathlib.Core.Path.{_≡_, sym, ap, _∙_}
+use mathlib.Core.Bool.{Bool, true, false, cond}
 use mathlib.Core.List.{[], _∷_}
-use mathlib.Core.Logic.{_≢_, _⊎_, inl, inr}
-use Prim.Native.Nat.{ℕ, _<_}
+use mathlib.Core.Logic.{_≢_, _↔_, _⊎_, inl, inr}
+use Prim.Native.Nat.{ℕ, _+_, _%_, _≤_, _<_}
 use native.Mathlib.Decide.{ℕ-discrete}
 use borrow.Author.Tests.{eq-eqb, ne-eqb}
-use Rattle.layout.specs.Arrays.{dataMembers, blockRefusal}
-use Rattle.layout.specs.Places.{parityMember, blockAt, stripeOf, indexOf, indexAt, memberOf, isParity, blockNamed, placeNumbers, ownerRefusal, ownerNumbers, OneBlock}
-use Rattle.layout.specs.Ranges.{SoundBlock}
+use lib.Dec.{eqb}
+use Rattle.layout.specs.Arrays.{dataMembers, blockCount, blockRefusal}
+use Rattle.layout.specs.Places.{parityMember, lowestBlock, blockAt, indexBeside, stripeOf, indexOf, indexAt, memberOf, isParity, blockNamed, placeNumbers, ownerRefusal, ownerNumbers, OneBlock, Held}
+use Rattle.layout.specs.Ranges.{Sound, SoundBlock}
 use Rattle.layout.specs.declared.Array.{Array}
 use Rattle.layout.proofs.Ranges.{block-sound, sound-block, place-sound, sound-place}
 use Rattle.layout.proofs.Members.{member-below, member-not-parity, index-of-member, member-of-index, index-below}
-use Rattle.layout.proofs.Blocks.{stripe-of-block, index-of-block, block-of-parts, index-in-stripe, stripe-in-array, block-in-array, lowest-sound, stripe-by-lowest}
+use Rattle.layout.proofs.Blocks.{stripe-of-block, index-of-block, block-of-parts, index-in-stripe, stripe-in-array, block-in-array, lowest-sound, stripe-by-lowest, row-parity, row-lowest, row-block}
 use Rattle.layout.proofs.Numbers.{place-numbers, owner-of-parity, owner-of-data, owner-by-name}
 
 module _ (a : Array) where
+  -- the block numbers that the stripes hold are exactly 0 .. S x d - 1
+  pub held-exactly : Sound a → (block : ℕ) → (block < blockCount a) ↔ Held a block
+  held-exactly h block = (
+    λ l. record {
+      stripe = stripeOf a block;
+      index = indexOf a block;
+      in-array = stripe-in-array a block (record { array = h; here = l });
+      of-data = index-in-stripe a block h;
+      this = block-of-parts a block;
+    },
+    λ w. rw (w .this) at (block-in-array a (w .stripe) (w .index) (record { array = h; here = w .in-array }) (w .of-data)),
+  )
+
   -- ---- there and back
 
   -- a block's place is a place of the array, and not the parity's
@@ -47,19 +62,22 @@ module _ (a : Array) where
     index-good : indexAt a stripe member < dataMembers a
     index-good = index-below a stripe member (place-sound a stripe member good .here) other
 
+    row-good : 1 ≤ a .row
+    row-good = place-sound a stripe member good .stripe .array .row-some
+
     pub owned-sound : SoundBlock a (blockAt a stripe (indexAt a stripe member))
     owned-sound =
         let s = place-sound a stripe member good .stripe in
-        record { array = s .array; here = block-in-array a stripe (indexAt a stripe member) (s .here) index-good }
+        record { array = s .array; here = block-in-array a stripe (indexAt a stripe member) s index-good }
 
     pub owned-refusal : blockRefusal a (blockAt a stripe (indexAt a stripe member)) ≡ 0
     owned-refusal = sound-block a (blockAt a stripe (indexAt a stripe member)) owned-sound
 
     pub stripe-of-owned : stripeOf a (blockAt a stripe (indexAt a stripe member)) ≡ stripe
-    stripe-of-owned = stripe-of-block a stripe (indexAt a stripe member) index-good
+    stripe-of-owned = stripe-of-block a stripe (indexAt a stripe member) row-good index-good
 
     pub member-of-owned : memberOf a (blockAt a stripe (indexAt a stripe member)) ≡ member
-    member-of-owned = rw (stripe-of-owned, index-of-block a stripe (indexAt a stripe member) index-good) (member-of-index a stripe member other)
+    member-of-owned = rw (stripe-of-owned, index-of-block a stripe (indexAt a stripe member) row-good index-good) (member-of-index a stripe member other)
 
     pub place-of-owner : placeNumbers a (blockAt a stripe (indexAt a stripe member)) ≡ 1 ∷ 0 ∷ stripe ∷ member ∷ []
     place-of-owner = rw (place-numbers a (blockAt a stripe (indexAt a stripe member)) owned-refusal, member-of-owned, stripe-of-owned)
@@ -124,3 +142,15 @@ module _ (a : Array) where
       (stripe ≡ stripe′) × (member ≡ member′)
   named-injective s m t k e f kind name =
       owner-injective s m t k e f (rw (owner-by-name a s m e, owner-by-name a t k f, kind, name))
+
+  -- in a row the next stripe holds on every member the next block, and the parity of the next
+  pub row-in-order : (stripe k member : ℕ) → stripe % a .row + k < a .row → blockNamed a (stripe + k) member ≡ blockNamed a stripe member + k
+  unfolding blockNamed indexAt
+  row-in-order stripe k member h = rw (row-parity a stripe k h) (go (eqb member (parityMember a stripe)))
+    where
+      index : ℕ
+      index = indexBeside (parityMember a stripe) member
+
+      go : (t : Bool) → cond t (lowestBlock a (stripe + k)) (blockAt a (stripe + k) index) ≡ cond t (lowestBlock a stripe) (blockAt a stripe index) + k
+      go true = row-lowest a stripe k h
+      go false = row-block a stripe k h index

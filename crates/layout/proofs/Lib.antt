@@ -1,4 +1,5 @@
 pub mod Answers
+pub mod Rows
 pub mod Ranges
 pub mod Injective
 pub mod Members
@@ -6,3 +7,4 @@ pub mod Blocks
 pub mod Numbers
 pub mod References
 pub mod Bijection
+pub mod Figures

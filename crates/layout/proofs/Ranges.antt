@@ -3,16 +3,17 @@
 use mathlib.Core.Path.{_≡_, refl}
 use mathlib.Core.Bool.{Bool, true, false, not, _&&_}
 use mathlib.Core.Logic.{_≢_, _↔_}
-use Prim.Native.Nat.{ℕ, _≤_}
+use Prim.Native.Nat.{ℕ, _%_, _≤_}
 use native.Mathlib.Omega.{arith}
-use borrow.Author.Tests.{leb-true, le-leb}
+use borrow.Author.Tests.{leb-true, le-leb, eqb-true, eq-eqb}
 use lib.Dec.{leb}
 use Rattle.layout.specs.Answers.{refuse, orPast}
-use Rattle.layout.specs.Arrays.{within, membersFit, stripesFit, methodFit, arrayRefusal, blockCount, stripeRefusal, blockRefusal}
+use Rattle.layout.specs.Arrays.{within, membersFit, stripesFit, methodFit, divides, rowFit, arrayRefusal, blockCount, stripeRefusal, blockRefusal}
 use Rattle.layout.specs.Places.{ownerRefusal}
 use Rattle.layout.specs.Ranges.{Sound, SoundStripe, SoundBlock, SoundPlace}
 use Rattle.layout.specs.declared.Array.{Array}
 use Rattle.layout.proofs.Answers.{refuse-none, or-past-none, none-or-past, or-past-number, number-or-past, or-past-else}
+use Rattle.layout.proofs.Rows.{row-range}
 
 pub both : (s t : Bool) → (s && t) ≡ true → (s ≡ true) × (t ≡ true)
 both true t e = (refl, e)
@@ -31,12 +32,26 @@ range-within low high x l h = rw (le-leb low x l, le-leb x high h)
 pub array-sound : (a : Array) → arrayRefusal a ≡ 0 → Sound a
 unfolding arrayRefusal
 array-sound a e =
-    let h = refuse-none (membersFit a) 0 (refuse (not (stripesFit a)) 2 (refuse (not (methodFit a)) 12 0)) e in
-    let i = refuse-none (stripesFit a) 1 (refuse (not (methodFit a)) 12 0) (h .1) in
+    let h = refuse-none (membersFit a) 0 (refuse (not (stripesFit a)) 2 (refuse (not (methodFit a)) 12 (refuse (not (rowFit a)) 13 0))) e in
+    let i = refuse-none (stripesFit a) 1 (refuse (not (methodFit a)) 12 (refuse (not (rowFit a)) 13 0)) (h .1) in
+    let j = refuse-none (methodFit a) 11 (refuse (not (rowFit a)) 13 0) (i .1) in
+    let r = both (divides (a .row) 128) (divides (a .row) (a .stripes)) (refuse-none (rowFit a) 12 0 (j .1) .0) in
     let m = within-range 3 16 (a .members) (h .0) in
     let s = within-range 1 268435456 (a .stripes) (i .0) in
-    let k = within-range 1 3 (a .method) (refuse-none (methodFit a) 11 0 (i .1) .0) in
-    record { few = m .0; many = m .1; some = s .0; most = s .1; method-least = k .0; method-most = k .1 }
+    let k = within-range 1 3 (a .method) (j .0) in
+    let p = eqb-true (128 % a .row) 0 (r .0) in
+    record {
+      few = m .0;
+      many = m .1;
+      some = s .0;
+      most = s .1;
+      method-least = k .0;
+      method-most = k .1;
+      row-some = row-range (a .row) p .0;
+      row-most = row-range (a .row) p .1;
+      row-power = p;
+      row-whole = eqb-true (a .stripes % a .row) 0 (r .1);
+    }
 
 pub sound-array : (a : Array) → Sound a → arrayRefusal a ≡ 0
 unfolding arrayRefusal
@@ -45,6 +60,8 @@ sound-array a h =
       range-within 3 16 (a .members) (h .few) (h .many),
       range-within 1 268435456 (a .stripes) (h .some) (h .most),
       range-within 1 3 (a .method) (h .method-least) (h .method-most),
+      eq-eqb (128 % a .row) 0 (h .row-power),
+      eq-eqb (a .stripes % a .row) 0 (h .row-whole),
     )
 
 pub stripe-sound : (a : Array) (stripe : ℕ) → stripeRefusal a stripe ≡ 0 → SoundStripe a stripe
@@ -79,50 +96,65 @@ sound-place a stripe member h = none-or-past (stripeRefusal a stripe) member (a 
 
 -- ---- something is: each number exactly where its test fails and no earlier one does
 
--- the three tests in their order
-abbrev inOrder : Bool → Bool → Bool → ℕ
-inOrder m s k = refuse (not m) 1 (refuse (not s) 2 (refuse (not k) 12 0))
+-- the four tests in their order
+abbrev inOrder : Bool → Bool → Bool → Bool → ℕ
+inOrder m s k r = refuse (not m) 1 (refuse (not s) 2 (refuse (not k) 12 (refuse (not r) 13 0)))
 
 pub members-refused : (a : Array) → (arrayRefusal a ≡ 1) ↔ (membersFit a ≡ false)
 unfolding arrayRefusal
-members-refused a = by-tests (membersFit a) (stripesFit a) (methodFit a)
+members-refused a = by-tests (membersFit a) (stripesFit a) (methodFit a) (rowFit a)
   where
-    by-tests : (m s k : Bool) → (inOrder m s k ≡ 1) ↔ (m ≡ false)
-    by-tests false s k = (λ e. refl, λ e. refl)
-    by-tests true false k = (λ e. absurd (omega arith), λ e. (cc))
-    by-tests true true false = (λ e. absurd (omega arith), λ e. (cc))
-    by-tests true true true = (λ e. absurd (omega arith), λ e. (cc))
+    by-tests : (m s k r : Bool) → (inOrder m s k r ≡ 1) ↔ (m ≡ false)
+    by-tests false s k r = (λ e. refl, λ e. refl)
+    by-tests true false k r = (λ e. absurd (omega arith), λ e. (cc))
+    by-tests true true false r = (λ e. absurd (omega arith), λ e. (cc))
+    by-tests true true true false = (λ e. absurd (omega arith), λ e. (cc))
+    by-tests true true true true = (λ e. absurd (omega arith), λ e. (cc))
 
 pub stripes-refused : (a : Array) → (arrayRefusal a ≡ 2) ↔ ((membersFit a ≡ true) × (stripesFit a ≡ false))
 unfolding arrayRefusal
-stripes-refused a = by-tests (membersFit a) (stripesFit a) (methodFit a)
+stripes-refused a = by-tests (membersFit a) (stripesFit a) (methodFit a) (rowFit a)
   where
-    by-tests : (m s k : Bool) → (inOrder m s k ≡ 2) ↔ ((m ≡ true) × (s ≡ false))
-    by-tests false s k = (λ e. absurd (omega arith), λ e. (cc))
-    by-tests true false k = (λ e. (refl, refl), λ e. refl)
-    by-tests true true false = (λ e. absurd (omega arith), λ e. (cc))
-    by-tests true true true = (λ e. absurd (omega arith), λ e. (cc))
+    by-tests : (m s k r : Bool) → (inOrder m s k r ≡ 2) ↔ ((m ≡ true) × (s ≡ false))
+    by-tests false s k r = (λ e. absurd (omega arith), λ e. (cc))
+    by-tests true false k r = (λ e. (refl, refl), λ e. refl)
+    by-tests true true false r = (λ e. absurd (omega arith), λ e. (cc))
+    by-tests true true true false = (λ e. absurd (omega arith), λ e. (cc))
+    by-tests true true true true = (λ e. absurd (omega arith), λ e. (cc))
 
 pub method-refused : (a : Array) → (arrayRefusal a ≡ 12) ↔ ((membersFit a ≡ true) × (stripesFit a ≡ true) × (methodFit a ≡ false))
 unfolding arrayRefusal
-method-refused a = by-tests (membersFit a) (stripesFit a) (methodFit a)
+method-refused a = by-tests (membersFit a) (stripesFit a) (methodFit a) (rowFit a)
   where
-    by-tests : (m s k : Bool) → (inOrder m s k ≡ 12) ↔ ((m ≡ true) × (s ≡ true) × (k ≡ false))
-    by-tests false s k = (λ e. absurd (omega arith), λ e. (cc))
-    by-tests true false k = (λ e. absurd (omega arith), λ e. (cc))
-    by-tests true true false = (λ e. (refl, refl, refl), λ e. refl)
-    by-tests true true true = (λ e. absurd (omega arith), λ e. (cc))
+    by-tests : (m s k r : Bool) → (inOrder m s k r ≡ 12) ↔ ((m ≡ true) × (s ≡ true) × (k ≡ false))
+    by-tests false s k r = (λ e. absurd (omega arith), λ e. (cc))
+    by-tests true false k r = (λ e. absurd (omega arith), λ e. (cc))
+    by-tests true true false r = (λ e. (refl, refl, refl), λ e. refl)
+    by-tests true true true false = (λ e. absurd (omega arith), λ e. (cc))
+    by-tests true true true true = (λ e. absurd (omega arith), λ e. (cc))
+
+pub row-refused : (a : Array) → (arrayRefusal a ≡ 13) ↔ ((membersFit a ≡ true) × (stripesFit a ≡ true) × (methodFit a ≡ true) × (rowFit a ≡ false))
+unfolding arrayRefusal
+row-refused a = by-tests (membersFit a) (stripesFit a) (methodFit a) (rowFit a)
+  where
+    by-tests : (m s k r : Bool) → (inOrder m s k r ≡ 13) ↔ ((m ≡ true) × (s ≡ true) × (k ≡ true) × (r ≡ false))
+    by-tests false s k r = (λ e. absurd (omega arith), λ e. (cc))
+    by-tests true false k r = (λ e. absurd (omega arith), λ e. (cc))
+    by-tests true true false r = (λ e. absurd (omega arith), λ e. (cc))
+    by-tests true true true false = (λ e. (refl, refl, refl, refl), λ e. refl)
+    by-tests true true true true = (λ e. absurd (omega arith), λ e. (cc))
 
 -- no other number is the array's own: later requests add numbers past 11
 pub array-else : (a : Array) (n : ℕ) → 3 ≤ n → n ≤ 11 → arrayRefusal a ≢ n
 unfolding arrayRefusal
-array-else a n low high = by-tests (membersFit a) (stripesFit a) (methodFit a)
+array-else a n low high = by-tests (membersFit a) (stripesFit a) (methodFit a) (rowFit a)
   where
-    by-tests : (m s k : Bool) → inOrder m s k ≢ n
-    by-tests false s k = omega arith
-    by-tests true false k = omega arith
-    by-tests true true false = omega arith
-    by-tests true true true = omega arith
+    by-tests : (m s k r : Bool) → inOrder m s k r ≢ n
+    by-tests false s k r = omega arith
+    by-tests true false k r = omega arith
+    by-tests true true false r = omega arith
+    by-tests true true true false = omega arith
+    by-tests true true true true = omega arith
 
 past-refused : (a : Array) (x end : ℕ) → (orPast (arrayRefusal a) x end 3 ≡ 3) ↔ (Sound a × (end ≤ x))
 past-refused a x end = (

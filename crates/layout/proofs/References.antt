@@ -19,11 +19,11 @@ module _ (a : Array) where
   reference-injective x y p q e = e
 
 -- a volume moves nothing: which places are the parity's, and by which block a place is named, do not depend on it
-module _ (members stripes v w method stripe member : ℕ) where
-  pub parity-any-volume : isParity (arrayOf members stripes v method) stripe member ≡ isParity (arrayOf members stripes w method) stripe member
+module _ (members stripes v w method row stripe member : ℕ) where
+  pub parity-any-volume : isParity (arrayOf members stripes v method row) stripe member ≡ isParity (arrayOf members stripes w method row) stripe member
   unfolding parityMember
   parity-any-volume = refl
 
-  pub named-any-volume : blockNamed (arrayOf members stripes v method) stripe member ≡ blockNamed (arrayOf members stripes w method) stripe member
+  pub named-any-volume : blockNamed (arrayOf members stripes v method row) stripe member ≡ blockNamed (arrayOf members stripes w method row) stripe member
   unfolding blockNamed lowestBlock blockAt indexAt parityMember
   named-any-volume = refl

@@ -1,7 +1,7 @@
--- Where a block lies. The parity of a stripe moves up by one member from stripe to stripe, and the data stand on the other members
--- in order: the layout that Linux md calls right-asymmetric. Everything a later row length would change is named here.
+-- Where a block lies. The parity moves up by one member from row to row of c stripes, and the data stand on the other members
+-- in order: the layout that Linux md calls right-asymmetric, with a chunk of c blocks. At c = 1 a row is a stripe.
 -- Assumes nothing.
-use Prim.Native.Nat.{ℕ, _+_, _-_, _*_, _/_, _%_}
+use Prim.Native.Nat.{ℕ, _+_, _-_, _*_, _/_, _%_, _<_}
 use mathlib.Core.Path.{_≡_}
 use mathlib.Core.Bool.{Bool, cond}
 use mathlib.Core.List.{List, [], _∷_}
@@ -9,28 +9,33 @@ use lib.Dec.{ltb, eqb}
 use Rattle.layout.specs.Answers.{orPast, answer}
 use Rattle.layout.specs.Arrays.{dataMembers, stripeRefusal, blockRefusal}
 use Rattle.layout.specs.declared.Array.{Array}
+use Rattle.layout.specs.declared.Seat.{Seat}
 use Rattle.layout.specs.declared.Placed.{Placed}
 use Rattle.layout.specs.declared.Placed.the-variants.{Refused, At}
 use Rattle.layout.specs.declared.Owned.{Owned}
 use Rattle.layout.specs.declared.Owned.the-variants.{Parity, Data, Refused as OwnerRefused}
 
--- the member that holds the parity of a stripe
+-- with g = stripe / c and k = stripe % c: the parity stays on a member for the c stripes of one g
 unfoldable pub parityMember : Array → ℕ → ℕ
-parityMember a stripe = stripe % a .members
+parityMember a stripe = stripe / a .row % a .members
 
--- the lowest block number in a stripe, and the one at a data index
+-- the lowest block number in a stripe, g x d x c + k, and the one at a data index: c successive blocks lie on one member
 unfoldable pub lowestBlock : Array → ℕ → ℕ
-lowestBlock a stripe = stripe * dataMembers a
+lowestBlock a stripe = stripe / a .row * dataMembers a * a .row + stripe % a .row
 
 unfoldable pub blockAt : Array → ℕ → ℕ → ℕ
-blockAt a stripe index = lowestBlock a stripe + index
+blockAt a stripe index = lowestBlock a stripe + index * a .row
 
 -- the stripe of a block, and its data index there
 unfoldable pub stripeOf : Array → ℕ → ℕ
-stripeOf a block = block / dataMembers a
+stripeOf a block = block / a .row / dataMembers a * a .row + block % a .row
 
 unfoldable pub indexOf : Array → ℕ → ℕ
-indexOf a block = block % dataMembers a
+indexOf a block = block / a .row % dataMembers a
+
+-- what a stripe is found by: the member of its parity, and its lowest block
+abbrev pub seatOf : Array → ℕ → Seat
+seatOf a stripe = record { parity = parityMember a stripe; lowest = lowestBlock a stripe }
 
 -- the member at a data index: the indices step over the parity member; and the index at a member that is not the parity's,
 unfoldable pub memberAt : Array → ℕ → ℕ → ℕ
@@ -81,12 +86,6 @@ unfoldable pub ownerNumbers : Array → ℕ → ℕ → List ℕ
 ownerNumbers a stripe member =
     answer (ownerRefusal a stripe member) (cond (isParity a stripe member) 1 0 ∷ blockNamed a stripe member ∷ [])
 
--- the same, told by a member that is said to hold the parity
-unfoldable pub ownerBesideNumbers : Array → ℕ → ℕ → ℕ → List ℕ
-ownerBesideNumbers a stripe parity member =
-    answer (ownerRefusal a stripe member)
-    (cond (eqb member parity) 1 0 ∷ cond (eqb member parity) (lowestBlock a stripe) (blockAt a stripe (indexBeside parity member)) ∷ [])
-
 -- ---- a place holds one block of the array, and no second
 
 pub record OneBlock (a : Array) (stripe member : ℕ) : Type 0 where
@@ -95,3 +94,12 @@ pub record OneBlock (a : Array) (stripe member : ℕ) : Type 0 where
   pub in-stripe : stripeOf a block ≡ stripe
   pub on-member : memberOf a block ≡ member
   pub only : (other : ℕ) → stripeOf a other ≡ stripe → memberOf a other ≡ member → other ≡ block
+
+-- ---- a block number is some stripe's, at some data index
+
+pub record Held (a : Array) (block : ℕ) : Type 0 where
+  pub stripe : ℕ
+  pub index : ℕ
+  pub in-array : stripe < a .stripes
+  pub of-data : index < dataMembers a
+  pub this : blockAt a stripe index ≡ block

@@ -1,5 +1,6 @@
 -- The numbers that are in range: what a caller must hand in so that nothing is refused. Assumes nothing.
-use Prim.Native.Nat.{ℕ, _≤_, _<_}
+use mathlib.Core.Path.{_≡_}
+use Prim.Native.Nat.{ℕ, _%_, _≤_, _<_}
 use Rattle.layout.specs.Arrays.{blockCount}
 use Rattle.layout.specs.declared.Array.{Array}
 
@@ -11,6 +12,10 @@ pub record Sound (a : Array) : Type 0 where
   pub most : a .stripes ≤ 268435456
   pub method-least : 1 ≤ a .method
   pub method-most : a .method ≤ 3
+  pub row-some : 1 ≤ a .row
+  pub row-most : a .row ≤ 128
+  pub row-power : 128 % a .row ≡ 0
+  pub row-whole : a .stripes % a .row ≡ 0
 
 -- and a stripe, a block, a place of it are
 pub record SoundStripe (a : Array) (stripe : ℕ) : Type 0 where

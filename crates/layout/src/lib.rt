@@ -2,11 +2,15 @@
 // A call decides first: its refusal number, 0 where nothing is refused; only then does it compute.
 ghost use mathlib.Core.Path.{_≡_};
 ghost use mathlib.Core.Bool.{not};
-ghost use Prim.Native.Nat.{_-_, _<_, _≤_};
+ghost use Prim.Native.Nat.{_-_, _/_, _%_, _<_, _≤_};
 ghost use Rattle.layout.specs.Answers.{refuse, orPast};
-ghost use Rattle.layout.specs.Arrays.{arrayOf, noArray, within, arrayRefusal, dataMembers, stripeRefusal, blockRefusal};
+ghost use Rattle.layout.specs.Arrays.{arrayOf, noArray, within, rowFit, arrayRefusal, dataMembers, stripeRefusal, blockRefusal};
 ghost use Rattle.layout.specs.Places.{
   parityMember,
+  lowestBlock,
+  stripeOf,
+  indexOf,
+  seatOf,
   memberAt,
   indexBeside,
   referenceOf,
@@ -14,27 +18,28 @@ ghost use Rattle.layout.specs.Places.{
   placeNumbers,
   ownedNumbers,
   ownerNumbers,
-  ownerBesideNumbers,
   ownerRefusal,
 };
 
-// The array's numbers: members n, stripes S, the volume that stands in every application tag, and the guard method.
+// The array's numbers: members n, stripes S, the volume that stands in every application tag, the guard method, and the row length c.
 pub struct Array {
     pub members: usize,
     pub stripes: u64,
     pub volume: u8,
     pub method: u8,
+    pub row: u8,
 }
 
 // The array with these numbers.
-pub fn array_of(members: usize, stripes: u64, volume: u8, method: u8) -> Array
-    ensures { λ r. ⌜ r ≡ arrayOf members stripes volume method ⌝ }
+pub fn array_of(members: usize, stripes: u64, volume: u8, method: u8, row: u8) -> Array
+    ensures { λ r. ⌜ r ≡ arrayOf members stripes volume method row ⌝ }
 {
     Array {
         members,
         stripes,
         volume,
         method,
+        row,
     }
 }
 
@@ -42,13 +47,19 @@ pub fn array_of(members: usize, stripes: u64, volume: u8, method: u8) -> Array
 pub fn no_array() -> Array
     ensures { λ r. ⌜ r ≡ noArray ⌝ }
 {
-    array_of(0, 0, 0, 0)
+    array_of(0, 0, 0, 0, 0)
 }
 
 // Where a block lies.
 pub enum Placed {
     Refused(u8),
     At { stripe: u64, member: usize },
+}
+
+// What a stripe is found by: the member of its parity, and its lowest block. To find it takes divisions, so it is found once a stripe.
+pub struct Seat {
+    pub parity: usize,
+    pub lowest: u64,
 }
 
 // What lies at a place: a block, or the parity of its stripe, which is named by the stripe's lowest block.
@@ -66,11 +77,40 @@ const MOST_STRIPES: u64 = 268435456;
 
 const MOST_METHODS: u64 = 3;
 
+const LONGEST_ROW: u64 = 128;
+
 // x lies between low and high, both included.
 fn is_within(low: u64, high: u64, x: u64) -> bool
     ensures { λ r. ⌜ r ≡ within low high x ⌝ }
 {
     low <= x && x <= high
+}
+
+// A quotient and a rest that take any divisor: by 0 they are 0 and the number itself. By 1, as most often, nothing is divided.
+fn over(x: u64, m: u64) -> u64
+    ensures { λ r. ⌜ r ≡ x / m ⌝ }
+{
+    if m == 1 {
+        return x;
+    }
+    if m == 0 { 0 } else { x / m }
+}
+
+fn rest(x: u64, m: u64) -> u64
+    ensures { λ r. ⌜ r ≡ x % m ⌝ }
+{
+    if m == 1 {
+        return 0;
+    }
+    if m == 0 { x } else { x % m }
+}
+
+// The row length is one of 1, 2, 4 .. 128 and divides the number of stripes.
+fn row_fits(array: Array) -> bool
+    ensures { λ r. ⌜ r ≡ rowFit array ⌝ }
+{
+    let row = array.row as u64;
+    rest(LONGEST_ROW, row) == 0 && rest(array.stripes, row) == 0
 }
 
 // A test's number where it fails, else what the later tests give.
@@ -80,14 +120,16 @@ fn unless(fits: bool, number: u8, later: u8) -> u8
     if fits { later } else { number }
 }
 
-// The refusal number of the array's own numbers: 1, 2, 12, or 0.
+// The refusal number of the array's own numbers: 1, 2, 12, 13, or 0.
 pub fn array_refusal(array: Array) -> u8
     ensures { λ r. ⌜ r ≡ arrayRefusal array ⌝ }
 {
     let members = is_within(FEWEST_MEMBERS, MOST_MEMBERS, array.members as u64);
     let stripes = is_within(1, MOST_STRIPES, array.stripes);
     let method = is_within(1, MOST_METHODS, array.method as u64);
-    unless(members, 1, unless(stripes, 2, unless(method, 12, 0)))
+    let row = row_fits(array);
+    let later = unless(method, 12, unless(row, 13, 0));
+    unless(members, 1, unless(stripes, 2, later))
 }
 
 // The number of an earlier refusal where there is one, else `number` where x is at or past the end.
@@ -107,12 +149,18 @@ pub fn stripe_refusal(array: Array, stripe: u64) -> u8
     or_past(array_refusal(array), stripe, array.stripes, 3)
 }
 
+// One less; 0 stays 0.
+fn one_less(x: usize) -> usize
+    ensures { λ r. ⌜ r ≡ x - 1 ⌝ }
+{
+    if x == 0 { 0 } else { x - 1 }
+}
+
 // How many members of a stripe hold data: d.
 fn data_members(array: Array) -> u64
-    requires { ⌜ 1 ≤ array .members ⌝ }
     ensures { λ r. ⌜ r ≡ dataMembers array ⌝ }
 {
-    array.members as u64 - 1
+    one_less(array.members) as u64
 }
 
 // The refusal number where a block number is handed in.
@@ -138,15 +186,11 @@ pub fn owner_refusal(array: Array, stripe: u64, member: usize) -> u8
     )
 }
 
-// The member that holds the parity of a stripe. With no members at all, the remainder by 0 is the stripe itself.
+// The member that holds the parity of a stripe. With no members at all, the rest by 0 is the row itself.
 pub fn parity_member(array: Array, stripe: u64) -> usize
     ensures { λ r. ⌜ r ≡ parityMember array stripe ⌝ }
 {
-    let members = array.members as u64;
-    if members == 0 {
-        return stripe as usize;
-    }
-    (stripe % members) as usize
+    rest(over(stripe, array.row as u64), array.members as u64) as usize
 }
 
 // The member at a data index: the indices step over the parity member.
@@ -161,13 +205,6 @@ fn member_at(array: Array, stripe: u64, index: usize) -> usize
     }
 }
 
-// One less; 0 stays 0.
-fn one_less(x: usize) -> usize
-    ensures { λ r. ⌜ r ≡ x - 1 ⌝ }
-{
-    if x == 0 { 0 } else { x - 1 }
-}
-
 // The data index at a member, where another holds the parity.
 pub fn index_beside(parity: usize, member: usize) -> usize
     ensures { λ r. ⌜ r ≡ indexBeside parity member ⌝ }
@@ -179,6 +216,30 @@ pub fn index_beside(parity: usize, member: usize) -> usize
     }
 }
 
+// The lowest block of a stripe.
+fn lowest_block(array: Array, stripe: u64) -> u64
+    requires { ⌜ stripeRefusal array stripe ≡ 0 ⌝ }
+    ensures { λ r. ⌜ r ≡ lowestBlock array stripe ⌝ }
+{
+    let row = array.row as u64;
+    over(stripe, row) * data_members(array) * row + rest(stripe, row)
+}
+
+// The stripe of a block, and its data index there.
+fn stripe_of(array: Array, block: u64) -> u64
+    requires { ⌜ blockRefusal array block ≡ 0 ⌝ }
+    ensures { λ r. ⌜ r ≡ stripeOf array block ⌝ }
+{
+    let row = array.row as u64;
+    over(over(block, row), data_members(array)) * row + rest(block, row)
+}
+
+fn index_of(array: Array, block: u64) -> usize
+    ensures { λ r. ⌜ r ≡ indexOf array block ⌝ }
+{
+    rest(over(block, array.row as u64), data_members(array)) as usize
+}
+
 // The place of a block.
 pub fn place(array: Array, block: u64) -> Placed
     ensures { λ r. ⌜ placedNumbers r ≡ placeNumbers array block ⌝ }
@@ -187,25 +248,36 @@ pub fn place(array: Array, block: u64) -> Placed
     if refusal != 0 {
         return Placed::Refused(refusal);
     }
-    let data = data_members(array);
-    let stripe = block / data;
-    let index = (block % data) as usize;
+    let stripe = stripe_of(array, block);
+    let index = index_of(array, block);
     let member = member_at(array, stripe, index);
     Placed::At { stripe, member }
 }
 
-// What lies at a place of the array, where that member holds the stripe's parity. To find it takes a division, so it is found once a stripe;
-// and the place is tested once.
-pub fn owner_beside(array: Array, stripe: u64, parity: usize, member: usize) -> Owned
-    requires { ⌜ ownerRefusal array stripe member ≡ 0 ⌝ }
-    ensures { λ r. ⌜ ownedNumbers r ≡ ownerBesideNumbers array stripe parity member ⌝ }
+// What a stripe of the array is found by.
+pub fn seat_of(array: Array, stripe: u64) -> Seat
+    requires { ⌜ stripeRefusal array stripe ≡ 0 ⌝ }
+    ensures { λ r. ⌜ r ≡ seatOf array stripe ⌝ }
 {
-    let lowest = stripe * data_members(array);
+    Seat {
+        parity: parity_member(array, stripe),
+        lowest: lowest_block(array, stripe),
+    }
+}
+
+// What lies at a place of the array, by what its stripe is found by.
+pub fn owner_beside(array: Array, stripe: u64, seat: Seat, member: usize) -> Owned
+    requires { ⌜ ownerRefusal array stripe member ≡ 0 ⌝ }
+    requires { ⌜ seat ≡ seatOf array stripe ⌝ }
+    ensures { λ r. ⌜ ownedNumbers r ≡ ownerNumbers array stripe member ⌝ }
+{
+    let parity = seat.parity;
+    let lowest = seat.lowest;
     if member == parity {
         return Owned::Parity { lowest };
     }
     let index = index_beside(parity, member);
-    let block = lowest + index as u64;
+    let block = lowest + index as u64 * array.row as u64;
     Owned::Data { block }
 }
 
@@ -217,7 +289,7 @@ pub fn owner(array: Array, stripe: u64, member: usize) -> Owned
     if refusal != 0 {
         return Owned::Refused(refusal);
     }
-    owner_beside(array, stripe, parity_member(array, stripe), member)
+    owner_beside(array, stripe, seat_of(array, stripe), member)
 }
 
 // The reference tag of a block number.

@@ -13,7 +13,7 @@ use Rattle.lines.specs.Headers.{formOf, formSize, later, arrayIn, header
 -- ---- lines
 
 abbrev fiveByThousand : Array
-fiveByThousand = arrayOf 5 1000 9 1
+fiveByThousand = arrayOf 5 1000 9 1 1
 
 -- "SCRUB v1 members 5 stripes 1000"
 pub first-line-reads : firstLine fiveByThousand ≡ 0x53 ∷ 0x43 ∷ 0x52 ∷ 0x55 ∷ 0x42 ∷ 0x20 ∷ 0x76 ∷ 0x31 ∷ 0x20 ∷ 0x6D ∷ 0x65 ∷ 0x6D ∷ 0x62 ∷ 0x65
@@ -61,7 +61,7 @@ refused-line-reads = refl
 abbrev header : List ℕ
 header = 0x00 ∷ 0x07 ∷ 0x01 ∷ 0x03 ∷ 0x05 ∷ 0x01 ∷ 0x02 ∷ 0x03 ∷ 0x04 ∷ []
 
-pub header-reads : arrayIn header ≡ arrayOf 3 0x01020304 5 1
+pub header-reads : arrayIn header ≡ arrayOf 3 0x01020304 5 1 1
 unfolding arrayIn later formOf numberOf
 header-reads = refl
 
@@ -83,12 +83,12 @@ pub length-exchanged-refused : headerRefusal (0x07 ∷ 0x00 ∷ 0x01 ∷ 0x03 �
 unfolding headerRefusal formOf formSize arrayRefusal arrayIn later numberOf
 length-exchanged-refused = refl
 
--- version 3; and at its third byte
-pub version-three-refused : headerRefusal (0x00 ∷ 0x07 ∷ 0x03 ∷ 0x03 ∷ 0x05 ∷ 0x01 ∷ 0x02 ∷ 0x03 ∷ 0x04 ∷ []) ≡ 10
+-- version 4; and at its third byte
+pub version-four-refused : headerRefusal (0x00 ∷ 0x07 ∷ 0x04 ∷ 0x03 ∷ 0x05 ∷ 0x01 ∷ 0x02 ∷ 0x03 ∷ 0x04 ∷ []) ≡ 10
 unfolding headerRefusal formOf formSize arrayRefusal arrayIn later numberOf
-version-three-refused = refl
+version-four-refused = refl
 
-pub three-bytes-refused : headerRefusal (0x00 ∷ 0x07 ∷ 0x03 ∷ []) ≡ 10
+pub three-bytes-refused : headerRefusal (0x00 ∷ 0x07 ∷ 0x04 ∷ []) ≡ 10
 unfolding headerRefusal formOf formSize arrayRefusal arrayIn later numberOf
 three-bytes-refused = refl
 
@@ -107,7 +107,7 @@ no-stripes-refused = refl
 abbrev secondHeader : List ℕ
 secondHeader = 0x00 ∷ 0x08 ∷ 0x02 ∷ 0x03 ∷ 0x05 ∷ 0x01 ∷ 0x02 ∷ 0x04 ∷ 0x06 ∷ 0x02 ∷ []
 
-pub second-header-reads : arrayIn secondHeader ≡ arrayOf 3 0x01020406 5 2
+pub second-header-reads : arrayIn secondHeader ≡ arrayOf 3 0x01020406 5 2 1
 unfolding arrayIn later formOf numberOf
 second-header-reads = refl
 
@@ -148,3 +148,30 @@ second-length-seven-refused = refl
 pub first-length-eight-refused : headerRefusal (0x00 ∷ 0x08 ∷ 0x01 ∷ 0x03 ∷ 0x05 ∷ 0x01 ∷ 0x02 ∷ 0x04 ∷ 0x06 ∷ 0x02 ∷ []) ≡ 10
 unfolding headerRefusal formOf formSize arrayRefusal arrayIn later numberOf
 first-length-eight-refused = refl
+
+-- ---- headers of version 3
+
+-- length 9, method 3 and rows of 64
+abbrev thirdHeader : List ℕ
+thirdHeader = 0x00 ∷ 0x09 ∷ 0x03 ∷ 0x03 ∷ 0x05 ∷ 0x01 ∷ 0x02 ∷ 0x04 ∷ 0x40 ∷ 0x03 ∷ 0x40 ∷ []
+
+pub third-header-reads : arrayIn thirdHeader ≡ arrayOf 3 0x01020440 5 3 64
+unfolding arrayIn later formOf numberOf
+third-header-reads = refl
+
+pub third-header-accepted : headerRefusal thirdHeader ≡ 0
+unfolding headerRefusal formOf formSize arrayRefusal arrayIn later numberOf
+third-header-accepted = refl
+
+-- rows of three; rows of 128, which do not divide those stripes; a method that there is not goes first
+pub rows-refused : (headerRefusal (0x00 ∷ 0x09 ∷ 0x03 ∷ 0x03 ∷ 0x05 ∷ 0x00 ∷ 0x00 ∷ 0x00 ∷ 0x03 ∷ 0x01 ∷ 0x03 ∷ []) ≡ 13)
+    × (headerRefusal (0x00 ∷ 0x09 ∷ 0x03 ∷ 0x03 ∷ 0x05 ∷ 0x01 ∷ 0x02 ∷ 0x04 ∷ 0x40 ∷ 0x01 ∷ 0x80 ∷ []) ≡ 13)
+    × (headerRefusal (0x00 ∷ 0x09 ∷ 0x03 ∷ 0x03 ∷ 0x05 ∷ 0x00 ∷ 0x00 ∷ 0x00 ∷ 0x03 ∷ 0x04 ∷ 0x02 ∷ []) ≡ 12)
+unfolding headerRefusal formOf formSize arrayRefusal arrayIn later numberOf
+rows-refused = (refl, refl, refl)
+
+-- a byte short; the second version's length
+pub third-short-refused : (headerRefusal (0x00 ∷ 0x09 ∷ 0x03 ∷ 0x03 ∷ 0x05 ∷ 0x01 ∷ 0x02 ∷ 0x04 ∷ 0x40 ∷ 0x03 ∷ []) ≡ 10)
+    × (headerRefusal (0x00 ∷ 0x08 ∷ 0x03 ∷ 0x03 ∷ 0x05 ∷ 0x01 ∷ 0x02 ∷ 0x04 ∷ 0x40 ∷ 0x03 ∷ 0x40 ∷ []) ≡ 10)
+unfolding headerRefusal formOf formSize arrayRefusal arrayIn later numberOf
+third-short-refused = (refl, refl)

@@ -1,4 +1,4 @@
--- The header as it was before the table, nine bytes of version 1, written out: method 1. But for the later rows of the table, the table
+-- The header as it was before the table, nine bytes of version 1, written out: method 1, rows of one. But for the later rows of the table, the table
 -- refuses with the same number on all bytes, and of version 1 it reads the same array. Assumes nothing.
 use mathlib.Core.Path.{_≡_, refl, sym, _∙_}
 use mathlib.Core.Bool.{Bool, true, false, not, _&&_}
@@ -15,7 +15,7 @@ use Rattle.tag.specs.Numbers.{numberOf}
 use Rattle.lines.specs.Headers.{formOf, headerForm, known, formSize, headerSize, later, arrayIn, headerRefusal}
 
 unfoldable pub nineByteArray : List ℕ → Array
-nineByteArray header = arrayOf (getD header 3 0) (numberOf (take 4 (drop 5 header))) (getD header 4 0) 1
+nineByteArray header = arrayOf (getD header 3 0) (numberOf (take 4 (drop 5 header))) (getD header 4 0) 1 1
 
 unfoldable pub nineByteRefusal : List ℕ → ℕ
 nineByteRefusal header =

@@ -1,5 +1,5 @@
 -- The header of an image: two bytes of length, a version, the members, the volume; then, by the version, the bytes of the stripes and
--- the later numbers, a byte each: the method. Assumes nothing.
+-- the later numbers, a byte each: the method, the row length. Assumes nothing.
 use Prim.Native.Nat.{ℕ, _+_, _-_}
 use mathlib.Core.Bool.{Bool, not, cond, _&&_}
 use mathlib.Core.List.{List}
@@ -24,7 +24,8 @@ unfoldable pub formOf : ℕ → Form
 formOf version =
     cond (eqb version 1) (form 4 0)
     (cond (eqb version 2) (form 4 1)
-    (form 0 0))
+    (cond (eqb version 3) (form 4 2)
+    (form 0 0)))
 
 -- the form of the header that begins so, unknown where its version has not come
 abbrev pub headerForm : List ℕ → Form
@@ -45,7 +46,7 @@ unfoldable pub later : List ℕ → ℕ → ℕ
 later bytes k = cond (ltb k (headerForm bytes .more)) (getD bytes (5 + headerForm bytes .wide + k) 0) 1
 
 unfoldable pub arrayIn : List ℕ → Array
-arrayIn bytes = arrayOf (getD bytes 3 0) (numberOf (take (headerForm bytes .wide) (drop 5 bytes))) (getD bytes 4 0) (later bytes 0)
+arrayIn bytes = arrayOf (getD bytes 3 0) (numberOf (take (headerForm bytes .wide) (drop 5 bytes))) (getD bytes 4 0) (later bytes 0) (later bytes 1)
 
 -- 10 where its version is in no row, it is short, or it says another length than that of the bytes that follow the first two; then the
 -- array's own refusal

@@ -26,6 +26,9 @@ fn form_of(version: u8) -> Form
     if version == 2 {
         return Form { wide: 4, more: 1 };
     }
+    if version == 3 {
+        return Form { wide: 4, more: 2 };
+    }
     Form { wide: 0, more: 0 }
 }
 
@@ -62,7 +65,8 @@ pub fn array_in(header: [u8; HEADER]) -> Array
     let wide = form.wide;
     let stripes = number_in(header, 5, wide);
     let method = later(header, 0);
-    layout::array_of(header[3] as usize, stripes, header[4], method)
+    let row = later(header, 1);
+    layout::array_of(header[3] as usize, stripes, header[4], method, row)
 }
 
 // How many bytes the header has of which `have` came; 3 where its version has not come, or is in no row.

@@ -55,11 +55,11 @@ refusedEleven : List ℕ
 refusedEleven = 0x52 ∷ 0x45 ∷ 0x46 ∷ 0x55 ∷ 0x53 ∷ 0x45 ∷ 0x44 ∷ 0x20 ∷ 0x31 ∷ 0x31 ∷ 0x0A ∷ []
 
 -- three members and one stripe, and no byte of it: the first line, and refusal 11; so with a header of version 2
-ends-early : reportOf (0 ∷ 7 ∷ 1 ∷ 3 ∷ 7 ∷ 0 ∷ 0 ∷ 0 ∷ 1 ∷ []) ≡ firstLine (arrayOf 3 1 7 1) ++ refusedEleven
+ends-early : reportOf (0 ∷ 7 ∷ 1 ∷ 3 ∷ 7 ∷ 0 ∷ 0 ∷ 0 ∷ 1 ∷ []) ≡ firstLine (arrayOf 3 1 7 1 1) ++ refusedEleven
 unfolding formatOf formOf formSize reportOf stripeLines headerRefusal arrayRefusal arrayIn later numberOf refusedLine refusedWord decimal refusedEleven
 ends-early = refl
 
-second-ends-early : reportOf (0 ∷ 8 ∷ 2 ∷ 3 ∷ 7 ∷ 0 ∷ 0 ∷ 0 ∷ 1 ∷ 2 ∷ []) ≡ firstLine (arrayOf 3 1 7 2) ++ refusedEleven
+second-ends-early : reportOf (0 ∷ 8 ∷ 2 ∷ 3 ∷ 7 ∷ 0 ∷ 0 ∷ 0 ∷ 1 ∷ 2 ∷ []) ≡ firstLine (arrayOf 3 1 7 2 1) ++ refusedEleven
 unfolding formatOf formOf formSize reportOf stripeLines headerRefusal arrayRefusal arrayIn later numberOf refusedLine refusedWord decimal refusedEleven
 second-ends-early = refl
 

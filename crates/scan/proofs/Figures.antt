@@ -34,7 +34,7 @@ use Rattle.scan.specs.Scans.{
 
 -- two stripes of three members
 abbrev three : Array
-three = arrayOf 3 2 7 1
+three = arrayOf 3 2 7 1 1
 
 abbrev zeros : List ℕ
 zeros = 0 ∷ 0 ∷ 0 ∷ 0 ∷ 0 ∷ 0 ∷ 0 ∷ 0 ∷ 0 ∷ 0 ∷ 0 ∷ 0 ∷ 0 ∷ 0 ∷ 0 ∷ 0 ∷ []
@@ -55,7 +55,7 @@ standing first second third fourth =
 
 -- a refused start gives zeros throughout and changes no byte: stripe 2 of two; a buffer of another length
 abbrev nothing : Scan
-nothing = record { array = arrayOf 0 0 0 0; stripe = 0; at = zeros; register = zeros; waiting = zeros; tag = replicate 256 0 }
+nothing = record { array = arrayOf 0 0 0 0 0; stripe = 0; at = zeros; register = zeros; waiting = zeros; tag = replicate 256 0 }
 
 pub refused-start : (startState three 2 512 ≡ nothing) × (startState three 1 2 ≡ nothing) × (startWork three 1 (8 ∷ 9 ∷ []) ≡ 8 ∷ 9 ∷ [])
 unfolding formatOf startState startWork startRefusal emptyScan stripeRefusal arrayRefusal
@@ -76,7 +76,7 @@ fit-positions = (refl, refl, refl)
 abbrev pairing : ℕ → ℕ → ℕ → Scan
 pairing position register byte =
     record {
-      array = arrayOf 3 2 7 2;
+      array = arrayOf 3 2 7 2 1;
       stripe = 1;
       at = 3 ∷ position ∷ 0 ∷ 4 ∷ 0 ∷ 0 ∷ 0 ∷ 0 ∷ 0 ∷ 0 ∷ 0 ∷ 0 ∷ 0 ∷ 0 ∷ 0 ∷ 0 ∷ [];
       register = 5 ∷ register ∷ 6 ∷ 7 ∷ 0 ∷ 0 ∷ 0 ∷ 0 ∷ 0 ∷ 0 ∷ 0 ∷ 0 ∷ 0 ∷ 0 ∷ 0 ∷ 0 ∷ [];

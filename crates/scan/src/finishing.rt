@@ -4,7 +4,7 @@ ghost use Prim.Native.Nat.{_*_, _≤_, _<_};
 ghost use lib.ListN.{length, take};
 ghost use Rattle.format.specs.Formats.{mostTags};
 ghost use Rattle.format.specs.Methods.{formatOf};
-ghost use Rattle.layout.specs.Places.{parityMember, ownerRefusal};
+ghost use Rattle.layout.specs.Places.{seatOf, ownerRefusal};
 ghost use Rattle.tag.specs.Tags.{found};
 ghost use Rattle.verdict.specs.Verdicts.{scrubbedNumbers, combinedGuards};
 ghost use Rattle.stripe.specs.Tables.{span};
@@ -17,6 +17,7 @@ use crate::fit;
 use crate::tag_at;
 use format::register_of;
 use layout::Array;
+use layout::Seat;
 use verdict::Scrubbed;
 
 // Whether all of the first positions stand at the end of a block.
@@ -57,25 +58,18 @@ fn finish_refusal(state: Scan, length: usize) -> u8
     0
 }
 
-// How a member with this register stands, by its tag bytes among those held and the member that holds the stripe's parity.
-fn standing(
-    array: Array,
-    stripe: u64,
-    parity: usize,
-    member: usize,
-    register: u32,
-    tags: &[u8],
-) -> u8
+// How a member with this register stands, by its tag bytes among those held and what its stripe is found by.
+fn standing(array: Array, stripe: u64, seat: Seat, member: usize, register: u32, tags: &[u8]) -> u8
     requires { ⌜ ownerRefusal array stripe member ≡ 0 ⌝ }
     requires { ⌜ length (now tags) ≡ mostTags ⌝ }
-    requires { ⌜ parity ≡ parityMember array stripe ⌝ }
+    requires { ⌜ seat ≡ seatOf array stripe ⌝ }
     ensures { λ r. ⌜ r ≡ heldStanding array stripe member register (now (tags .entry)) ⌝ }
 {
     let method = array.method;
     let at = tag_at(method, member);
     let guard = format::guard_of(method, register);
     let found = tag::fields_at(tags, at, format::quarter(method));
-    let owned = layout::owner_beside(array, stripe, parity, member);
+    let owned = layout::owner_beside(array, stripe, seat, member);
     tag::standing(method, found, tag::expected_to(array, owned, found, guard))
 }
 
@@ -92,14 +86,14 @@ fn standings(state: Scan, tags: &[u8]) -> [u8; 16]
     let waiting = state.waiting;
     let members = array.members;
     let method = array.method;
-    let parity = layout::parity_member(array, stripe);
+    let seat = layout::seat_of(array, stripe);
     let mut standing = [0u8; 16];
     let mut member: usize = 0;
     while member < members {
         standing[member] = crate::finishing::standing(
             array,
             stripe,
-            parity,
+            seat,
             member,
             register_of(method, values[member], waiting[member]) as u32,
             tags,

@@ -32,7 +32,7 @@ read-names = (refl, refl, refl)
 -- ---- refusals: first every number that is handed in is wrong, then one after the other is mended
 
 abbrev array : ℕ → ℕ → ℕ → Array
-array members stripes method = arrayOf members stripes 7 method
+array members stripes method = arrayOf members stripes 7 method 1
 
 pub seal-in-order : (sealRefusal (array 2 0 4) 1 0 0 ≡ 1) × (sealRefusal (array 3 0 4) 1 0 0 ≡ 2) × (sealRefusal (array 3 1 4) 1 0 0 ≡ 12)
     × (sealRefusal (array 3 1 1) 1 0 0 ≡ 3) × (sealRefusal (array 3 1 1) 0 0 0 ≡ 6) × (sealRefusal (array 3 1 1) 0 1024 0 ≡ 6)

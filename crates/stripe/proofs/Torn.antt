@@ -55,7 +55,7 @@ guard-zeros n =
     ∙ guard-linear (replicate n 0) (replicate n 0) refl ∙ xor-self (guard (replicate n 0))
 
 abbrev pub bench : Array
-bench = arrayOf 3 1 7 1
+bench = arrayOf 3 1 7 1 1
 
 -- its format is that of method 1
 narrowed : (l : List ℕ) → wide (formatAt bench) l ≡ guard l

@@ -35,7 +35,7 @@ use Rattle.stripe.proofs.Torn.{zerosThen}
 use Rattle.stripe.proofs.Cure.{halfUpdated, CutUpdate, LostBlock, fits-exactly, cut-rebuild, cut-unseen}
 
 abbrev pub shelf : ℕ → Array
-shelf method = arrayOf 3 1 7 method
+shelf method = arrayOf 3 1 7 method 1
 
 abbrev pub twoBlocks : ℕ → List ℕ
 twoBlocks zeros = joined (zerosThen zeros (1 ∷ []) ∷ zerosThen zeros (2 ∷ []) ∷ [])

@@ -18,7 +18,7 @@ ghost use lib.Bits.{bitXor};
 ghost use lib.Seq.{sets};
 ghost use Rattle.stripe.specs.Tables.{span};
 ghost use Rattle.layout.specs.Arrays.{stripeRefusal};
-ghost use Rattle.layout.specs.Places.{parityMember, ownerRefusal};
+ghost use Rattle.layout.specs.Places.{seatOf, ownerRefusal};
 ghost use Rattle.format.specs.Formats.{guard, guardsOf, settled, pieceLength};
 ghost use Rattle.format.specs.Methods.{formatOf};
 ghost use Rattle.tag.specs.Blocks.{formatAt, dataOf, tagOf};
@@ -29,6 +29,7 @@ ghost use Rattle.stripe.specs.Jobs.{withBlock};
 use copy::put;
 use format::PIECE;
 use layout::Array;
+use layout::Seat;
 use tag::Fields;
 use tag::GOOD;
 use verdict::combined_wide;
@@ -134,20 +135,20 @@ fn stored(method: u8, bytes: &[u8], member: usize) -> Fields
     tag::fields_at(bytes, at, format::quarter(method))
 }
 
-// How a block with these fields and this guard of its data stands on a member, by the member that holds the stripe's parity.
+// How a block with these fields and this guard of its data stands on a member, by what its stripe is found by.
 fn standing_by(
     array: Array,
     stripe: u64,
-    parity: usize,
+    seat: Seat,
     member: usize,
     found: Fields,
     data_guard: u32,
 ) -> u8
     requires { ⌜ ownerRefusal array stripe member ≡ 0 ⌝ }
-    requires { ⌜ parity ≡ parityMember array stripe ⌝ }
+    requires { ⌜ seat ≡ seatOf array stripe ⌝ }
     ensures { λ r. ⌜ r ≡ standing (formatAt array) found (expected array stripe member found data_guard) ⌝ }
 {
-    let owned = layout::owner_beside(array, stripe, parity, member);
+    let owned = layout::owner_beside(array, stripe, seat, member);
     let expected = tag::expected_to(array, owned, found, data_guard);
     tag::standing(array.method, found, expected)
 }
@@ -162,9 +163,9 @@ fn standing(array: Array, stripe: u64, bytes: &[u8], member: usize) -> u8
     let from = block_at(method, member);
     let end = from + format::data_length(method);
     let data_guard = format::guard(method, &bytes[from..end]);
-    let parity = layout::parity_member(array, stripe);
+    let seat = layout::seat_of(array, stripe);
     let found = stored(method, bytes, member);
-    standing_by(array, stripe, parity, member, found, data_guard)
+    standing_by(array, stripe, seat, member, found, data_guard)
 }
 
 // Whether a member's block is good at its place.
@@ -180,7 +181,7 @@ fn is_good(array: Array, stripe: u64, bytes: &[u8], member: usize) -> bool
 fn passes(
     array: Array,
     stripe: u64,
-    parity: usize,
+    seat: Seat,
     bytes: &[u8],
     skip: usize,
     member: usize,
@@ -189,14 +190,14 @@ fn passes(
     requires { ⌜ ownerRefusal array stripe member ≡ 0 ⌝ }
     requires { ⌜ formatAt array .blockLength * member + formatAt array .blockLength ≤ length (now bytes) ⌝ }
     requires { ⌜ data_guard ≡ guard (formatAt array) (dataOf (formatAt array) (blockOf (formatAt array) (now bytes) member)) ⌝ }
-    requires { ⌜ parity ≡ parityMember array stripe ⌝ }
+    requires { ⌜ seat ≡ seatOf array stripe ⌝ }
     ensures { λ r. ⌜ r ≡ getD (set (goodMembers array stripe (now (bytes .entry))) skip true) member true ⌝ }
 {
     if member == skip {
         return true;
     }
     let found = stored(array.method, bytes, member);
-    standing_by(array, stripe, parity, member, found, data_guard) == GOOD
+    standing_by(array, stripe, seat, member, found, data_guard) == GOOD
 }
 
 // Whether every member but `skip` is good, by the guards of the members' data.
@@ -207,10 +208,10 @@ fn others_good(array: Array, stripe: u64, bytes: &[u8], skip: usize, guards: [u3
     ensures { λ r. ⌜ r ≡ othersGood array stripe skip (now (bytes .entry)) ⌝ }
 {
     let members = array.members;
-    let parity = layout::parity_member(array, stripe);
+    let seat = layout::seat_of(array, stripe);
     let mut member: usize = 0;
     while member < members {
-        if !passes(array, stripe, parity, bytes, skip, member, guards[member]) {
+        if !passes(array, stripe, seat, bytes, skip, member, guards[member]) {
             return false;
         }
         member += 1;
@@ -277,15 +278,15 @@ fn made(array: Array, stripe: u64, member: usize, bytes: &[u8], content: &[u8]) 
 }
 
 // Writes the tag due to a member's block, with this guard, behind its data.
-fn write_tag(array: Array, stripe: u64, parity: usize, member: usize, guard: u64, bytes: &mut [u8])
+fn write_tag(array: Array, stripe: u64, seat: Seat, member: usize, guard: u64, bytes: &mut [u8])
     requires { ⌜ ownerRefusal array stripe member ≡ 0 ⌝ }
     requires { ⌜ formatAt array .blockLength * member + formatAt array .blockLength ≤ length (now bytes) ⌝ }
-    requires { ⌜ parity ≡ parityMember array stripe ⌝ }
+    requires { ⌜ seat ≡ seatOf array stripe ⌝ }
     ensures { λ _. ⌜ now (bytes .exit) ≡ sets (now (bytes .entry)) (formatAt array .blockLength * member + formatAt array .dataLength) (tagBytes (formatAt array) (due array stripe member guard)) ⌝ }
 {
     let method = array.method;
     let to = block_at(method, member) + format::data_length(method);
-    let place = layout::owner_beside(array, stripe, parity, member);
+    let place = layout::owner_beside(array, stripe, seat, member);
     let due = tag::due_to(array, place, guard, guard);
     tag::write(due, bytes, to, format::quarter(method));
 }
@@ -294,7 +295,7 @@ fn write_tag(array: Array, stripe: u64, parity: usize, member: usize, guard: u64
 fn write_block(
     array: Array,
     stripe: u64,
-    parity: usize,
+    seat: Seat,
     member: usize,
     content: &[u8],
     guard: u64,
@@ -303,10 +304,10 @@ fn write_block(
     requires { ⌜ ownerRefusal array stripe member ≡ 0 ⌝ }
     requires { ⌜ length (now content) ≡ formatAt array .dataLength ⌝ }
     requires { ⌜ formatAt array .blockLength * member + formatAt array .blockLength ≤ length (now bytes) ⌝ }
-    requires { ⌜ parity ≡ parityMember array stripe ⌝ }
+    requires { ⌜ seat ≡ seatOf array stripe ⌝ }
     ensures { λ _. ⌜ now (bytes .exit) ≡ withBlock (formatAt array) (now (bytes .entry)) member (taggedBy array stripe member guard (now (content .entry))) ⌝ }
 {
     let from = block_at(array.method, member);
     put(bytes, from, content);
-    write_tag(array, stripe, parity, member, guard, bytes);
+    write_tag(array, stripe, seat, member, guard, bytes);
 }

@@ -55,8 +55,8 @@ fn rebuild_carried(array: Array, stripe: u64, member: usize, bytes: &mut [u8]) -
     if !made.fits {
         return 9;
     }
-    let parity = layout::parity_member(array, stripe);
-    write_block(array, stripe, parity, member, &piece, made.guard, bytes);
+    let seat = layout::seat_of(array, stripe);
+    write_block(array, stripe, seat, member, &piece, made.guard, bytes);
     0
 }
 
@@ -72,8 +72,8 @@ fn rebuild_plain(array: Array, stripe: u64, member: usize, guards: [u32; 16], by
     let members = array.members;
     let guard = plain_guard(method, members, member, guards);
     make_data(method, members, member, bytes);
-    let parity = layout::parity_member(array, stripe);
-    write_tag(array, stripe, parity, member, guard, bytes);
+    let seat = layout::seat_of(array, stripe);
+    write_tag(array, stripe, seat, member, guard, bytes);
 }
 
 // Rebuilds a member's block in place: the exclusive-or of the other members' data, with the tag due there.

@@ -19,12 +19,12 @@ fn standings(array: Array, stripe: u64, bytes: &[u8]) -> [u8; 16]
     let method = array.method;
     let members = array.members;
     let guards = format::guards(method, bytes, format::block_length(method));
-    let parity = layout::parity_member(array, stripe);
+    let seat = layout::seat_of(array, stripe);
     let mut standing = [0u8; 16];
     let mut member: usize = 0;
     while member < members {
         let found = crate::stored(method, bytes, member);
-        let how = crate::standing_by(array, stripe, parity, member, found, guards[member]);
+        let how = crate::standing_by(array, stripe, seat, member, found, guards[member]);
         standing[member] = how;
         member += 1;
     }

@@ -7,7 +7,7 @@ ghost use Rattle.format.specs.Formats.{guardsOf};
 ghost use Rattle.format.specs.Methods.{formatOf};
 ghost use Rattle.tag.specs.Blocks.{formatAt};
 ghost use Rattle.layout.specs.Arrays.{dataMembers, stripeRefusal};
-ghost use Rattle.layout.specs.Places.{parityMember, ownerRefusal, indexAt, isParity};
+ghost use Rattle.layout.specs.Places.{seatOf, ownerRefusal, indexAt, isParity};
 ghost use Rattle.stripe.specs.Stripes.{stripeLength};
 ghost use Rattle.stripe.specs.Jobs.{withBlock, sealRefusal, sealBytes};
 ghost use Rattle.stripe.specs.Steps.{dataBlock, dataWritten};
@@ -17,6 +17,7 @@ use crate::wide;
 use crate::write_tag;
 use copy::put;
 use layout::Array;
+use layout::Seat;
 use verdict::combined_wide;
 
 // Where a member's part of the data begins.
@@ -50,7 +51,7 @@ fn seal_refusal(array: Array, stripe: u64, content: usize, length: usize) -> u8
 fn write_member(
     array: Array,
     stripe: u64,
-    parity: usize,
+    seat: Seat,
     member: usize,
     content: &[u8],
     data_guard: u32,
@@ -60,9 +61,10 @@ fn write_member(
     requires { ⌜ length (now content) ≡ formatAt array .dataLength * dataMembers array ⌝ }
     requires { ⌜ length (now bytes) ≡ stripeLength array ⌝ }
     requires { ⌜ data_guard ≡ getD (guardsOf (formatAt array) 16 (formatAt array .dataLength) (now content)) (indexAt array stripe member) 0 ⌝ }
-    requires { ⌜ parity ≡ parityMember array stripe ⌝ }
+    requires { ⌜ seat ≡ seatOf array stripe ⌝ }
     ensures { λ _. ⌜ now (bytes .exit) ≡ cond (isParity array stripe member) (now (bytes .entry)) (withBlock (formatAt array) (now (bytes .entry)) member (dataBlock array stripe (now (content .entry)) member)) ⌝ }
 {
+    let parity = seat.parity;
     if member == parity {
         return;
     }
@@ -71,7 +73,7 @@ fn write_member(
     let from = data_at(method, index);
     let end = from + format::data_length(method);
     put(bytes, block_at(method, member), &content[from..end]);
-    write_tag(array, stripe, parity, member, data_guard as u64, bytes);
+    write_tag(array, stripe, seat, member, data_guard as u64, bytes);
 }
 
 // Writes the blocks of all data members, by the guards of the parts of the data.
@@ -83,11 +85,12 @@ fn write_data(array: Array, stripe: u64, content: &[u8], guards: [u32; 16], byte
     ensures { λ _. ⌜ now (bytes .exit) ≡ dataWritten array stripe (now (content .entry)) (now (bytes .entry)) ⌝ }
 {
     let members = array.members;
-    let parity = layout::parity_member(array, stripe);
+    let seat = layout::seat_of(array, stripe);
+    let parity = seat.parity;
     let mut member: usize = 0;
     while member < members {
         let index = layout::index_beside(parity, member);
-        write_member(array, stripe, parity, member, content, guards[index], bytes);
+        write_member(array, stripe, seat, member, content, guards[index], bytes);
         member += 1;
     }
 }
@@ -107,10 +110,11 @@ pub fn seal(array: Array, stripe: u64, content: &[u8], bytes: &mut [u8]) -> u8
     let guards = format::guards(method, content, data);
     write_data(array, stripe, content, guards, bytes);
     let members = array.members;
-    let parity = layout::parity_member(array, stripe);
+    let seat = layout::seat_of(array, stripe);
+    let parity = seat.parity;
     make_data(method, members, parity, bytes);
     let data_guards = combined_wide(&guards[0..members - 1]);
     let parity_guard = wide(data_guards ^ format::settled(method, members));
-    write_tag(array, stripe, parity, parity, parity_guard, bytes);
+    write_tag(array, stripe, seat, parity, parity_guard, bytes);
     0
 }

@@ -110,13 +110,14 @@ fn replace(array: Array, stripe: u64, member: usize, content: &[u8], bytes: &mut
     if refusal != 0 {
         return refusal;
     }
-    let parity = layout::parity_member(array, stripe);
+    let seat = layout::seat_of(array, stripe);
+    let parity = seat.parity;
     let method = array.method;
     let data_guard = format::guard(method, content) as u64;
     let parity_guard = moved_guard(method, bytes, parity, member, data_guard);
     move_parity(method, parity, member, content, bytes);
-    write_tag(array, stripe, parity, parity, parity_guard, bytes);
-    write_block(array, stripe, parity, member, content, data_guard, bytes);
+    write_tag(array, stripe, seat, parity, parity_guard, bytes);
+    write_block(array, stripe, seat, member, content, data_guard, bytes);
     0
 }
 

@@ -87,21 +87,21 @@ module _ (a : Array) (s m t k : ℕ) (block : List ℕ) (h : good a s m block �
       other-kind differ ∙ ap (λ (x : Bool). cond x 0 4 + 2 + cond (eqb (referenceDue a s m) (referenceDue a t k)) 0 1) (eq-eqb stored dueThere (fits-own own))
 
 -- at its own place in an array of another volume: the application tag alone
-pub other-volume : (members stripes v w method s m : ℕ) (block : List ℕ) → v ≢ w → good (arrayOf members stripes v method) s m block ≡ true → standingAt (arrayOf members stripes w method) s m block ≡ 2
+pub other-volume : (members stripes v w method row s m : ℕ) (block : List ℕ) → v ≢ w → good (arrayOf members stripes v method row) s m block ≡ true → standingAt (arrayOf members stripes w method row) s m block ≡ 2
 unfolding standingAt due applicationDue referenceDue guardDue
-other-volume members stripes v w method s m block other h =
-    let a = arrayOf members stripes v method in
-    let b = arrayOf members stripes w method in
+other-volume members stripes v w method row s m block other h =
+    let a = arrayOf members stripes v method row in
+    let b = arrayOf members stripes w method row in
     let stored = foundIn a block .guard in
     let own = guard (formatAt a) (dataOf (formatAt a) block) in
     let g = guardDue b s m stored own in
     let same : guardDue a s m stored own ≡ g =
-    ap (λ (x : Bool). cond (formatAt a .carries && x) stored own) (parity-any-volume members stripes v w method s m) in
+    ap (λ (x : Bool). cond (formatAt a .carries && x) stored own) (parity-any-volume members stripes v w method row s m) in
     ap (λ (f : Fields). standing (formatAt a) f (due b s m g)) (good-fields a s m block h ∙ ap (due a s m) same)
     ∙ standing-faults (formatAt a) (due a s m g) (due b s m g) (ap (λ (x : ℕ). exempt (formatAt a) (due a s m x)) (sym same) ∙ good-checked a s m block h)
     ∙ application-alone (due a s m g) (due b s m g) refl
-    (λ e. other (volumes (isParity a s m) v w (formatAt a .scale) (scale-some (formatAt a)) (e ∙ ap (λ (x : Bool). (cond x 0x8000 0 + w) * formatAt a .scale) (sym (parity-any-volume members stripes v w method s m)))))
-    (ap referenceOf (named-any-volume members stripes v w method s m))
+    (λ e. other (volumes (isParity a s m) v w (formatAt a .scale) (scale-some (formatAt a)) (e ∙ ap (λ (x : Bool). (cond x 0x8000 0 + w) * formatAt a .scale) (sym (parity-any-volume members stripes v w method row s m)))))
+    (ap referenceOf (named-any-volume members stripes v w method row s m))
   where
     volumes : (x : Bool) (v w scale : ℕ) → 0 < scale → (cond x 0x8000 0 + v) * scale ≡ (cond x 0x8000 0 + w) * scale → v ≡ w
     volumes true v w scale p e = omega (arith, eq-of-mul-eq-mul-right scale p (0x8000 + v) (0x8000 + w) e)

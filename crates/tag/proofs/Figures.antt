@@ -25,7 +25,7 @@ use Rattle.tag.proofs.Numbers.{take-elements, number-of-two, number-of-
 -- ---- the sealed stripe of the outline: three members, volume 7, stripe 0; its parity, then its two blocks
 
 abbrev three : Array
-three = arrayOf 3 1 7 1
+three = arrayOf 3 1 7 1 1
 
 pub sealed-tags : (tagBytes (formatOf 1) (due three 0 0 0x176E) ≡ 0x17 ∷ 0x6E ∷ 0x80 ∷ 0x07 ∷ 0x00 ∷ 0x00 ∷ 0x00 ∷ 0x00 ∷ [])
     × (tagBytes (formatOf 1) (due three 0 1 0x8BB7) ≡ 0x8B ∷ 0xB7 ∷ 0x00 ∷ 0x07 ∷ 0x00 ∷ 0x00 ∷ 0x00 ∷ 0x00 ∷ [])
@@ -36,7 +36,7 @@ sealed-tags = (refl, refl, refl)
 -- ---- far out: five members, stripe 65,536, whose parity is on member 1
 
 abbrev five : Array
-five = arrayOf 5 268435456 0 1
+five = arrayOf 5 268435456 0 1 1
 
 pub far-parity : tagBytes (formatOf 1) (due five 65536 1 0) ≡ 0x00 ∷ 0x00 ∷ 0x80 ∷ 0x00 ∷ 0x00 ∷ 0x04 ∷ 0x00 ∷ 0x00 ∷ []
 unfolding formatOf tagBytes due applicationDue referenceDue referenceOf blockNamed lowestBlock blockAt indexAt parityMember bytesOf
@@ -109,7 +109,7 @@ module _ (block : List ℕ) (long : length block ≡ formatOf 3 .blockLength) wh
       small i = bytes i
 
 abbrev largeThree : Array
-largeThree = arrayOf 3 1 7 3
+largeThree = arrayOf 3 1 7 3 1
 
 pub large-tags : (tagBytes (formatOf 3) (due largeThree 0 0 0x8BA9B27D)
     ≡ 0x8B ∷ 0xA9 ∷ 0xB2 ∷ 0x7D ∷ 0x80 ∷ 0x07 ∷ 0x00 ∷ 0x00 ∷ 0x00 ∷ 0x00 ∷ 0x00 ∷ 0x00 ∷ 0x00 ∷ 0x00 ∷ 0x00 ∷ 0x00 ∷ [])
@@ -152,7 +152,7 @@ check-names = (refl, refl)
 -- ---- the guard that is due: of method 2's parity the one that is carried, of every other block that of its own data
 
 abbrev carrying : Array
-carrying = arrayOf 3 1 7 2
+carrying = arrayOf 3 1 7 2 1
 
 pub guards-due : (guardDue carrying 0 0 5 9 ≡ 5) × (guardDue carrying 0 1 5 9 ≡ 9) × (guardDue three 0 0 5 9 ≡ 9) × (guardDue three 0 1 5 9 ≡ 9)
 unfolding formatOf guardDue parityMember

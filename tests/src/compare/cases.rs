@@ -14,7 +14,7 @@ const STRIPES_EACH: usize = 1_430;
 pub const REFUSALS: usize = 20_000;
 
 #[rustfmt::skip]
-pub const STRIPES: [u64; 10] = [1, 2, 3, 7, 100, 65_535, 65_536, 65_537, 268_435_455, 268_435_456];
+pub const STRIPES: [u64; 12] = [1, 2, 3, 7, 100, 384, 65_535, 65_536, 65_537, 268_435_328, 268_435_455, 268_435_456];
 
 /// Numbers of stripes and of members that are refused; some are fit if they are cut to fewer bits.
 pub const FAR_STRIPES: [u64; 6] = [0, 268_435_457, 1 << 32, (1 << 32) + 1, 1 << 63, u64::MAX];
@@ -24,6 +24,16 @@ pub const FAR_MEMBERS: [usize; 11] = [0, 1, 2, 17, 18, 255, 256, 259, 65_539, (1
 /// The methods, and numbers that are none.
 pub const METHODS: [u8; 3] = [1, 2, 3];
 pub const FAR_METHODS: [u8; 7] = [0, 4, 128, 129, 130, 131, 255];
+
+/// The row lengths, and numbers that are none.
+pub const ROWS: [u8; 8] = [1, 2, 4, 8, 16, 32, 64, 128];
+pub const FAR_ROWS: [u8; 10] = [0, 3, 5, 6, 12, 96, 127, 129, 192, 255];
+
+/// A row length that divides this number of stripes, each as likely.
+pub fn row_of(stripes: u64, random: &mut Random) -> u8 {
+    let divides = |row: &u8| stripes % u64::from(*row) == 0;
+    random.pick(&ROWS.into_iter().filter(divides).collect::<Vec<_>>())
+}
 
 /// How often each method comes up where it is any: a stripe of method 3 has eight times the bytes, and takes as much longer.
 const ANY_METHOD: [u8; 5] = [1, 1, 2, 2, 3];
@@ -39,15 +49,18 @@ pub fn any_volume(random: &mut Random) -> u8 {
 }
 
 pub fn array(random: &mut Random) -> Array {
-    let stripes = match random.below(2) {
+    let stripes = match random.below(4) {
         0 => random.pick(&STRIPES),
-        _ => random.between(1, 268_435_456),
+        1 => random.between(1, 268_435_456),
+        2 => 128 * random.between(1, 20),
+        _ => 128 * random.between(1, 2_097_152),
     };
     Array {
         members: random.between(3, 16) as usize,
         stripes,
         volume: any_volume(random),
         method: any_method(random),
+        row: row_of(stripes, random),
     }
 }
 
@@ -59,7 +72,7 @@ pub fn stripe_of(array: &Array, random: &mut Random) -> u64 {
     }
 }
 
-/// Numbers of an array, now and then refused.
+/// Numbers of an array, now and then refused. A row length may then be one that does not divide the stripes.
 pub fn any_array(random: &mut Random) -> Array {
     let mut array = array(random);
     if random.one_in(6) {
@@ -70,6 +83,12 @@ pub fn any_array(random: &mut Random) -> Array {
     }
     if random.one_in(6) {
         array.method = random.pick(&FAR_METHODS);
+    }
+    if random.one_in(6) {
+        array.row = random.pick(&FAR_ROWS);
+    }
+    if random.one_in(12) {
+        array.row = random.pick(&ROWS);
     }
     array
 }
@@ -486,10 +505,11 @@ fn shift(case: &mut Case, _: usize, _: &mut Random) {
     case.bytes.rotate_right(block);
 }
 
-/// A block of the next or the previous stripe, or of one a turn of the parity away.
+/// A block of the next or the previous stripe, of one a row away, or of one a turn of the parity away.
 fn other_stripe(case: &mut Case, member: usize, random: &mut Random) {
-    let turn = case.array.members as u64;
-    let far = random.pick(&[1, turn, 2 * turn]);
+    let row = u64::from(case.array.row);
+    let turn = case.array.members as u64 * row;
+    let far = random.pick(&[1, row, turn, 2 * turn]);
     let stripe = if random.one_in(2) {
         case.stripe + far
     } else {
@@ -559,7 +579,7 @@ fn update_cut(case: &mut Case, _: usize, random: &mut Random) {
         0 => random.fill(&mut data),
         _ => data[random.below(case.format().data)] ^= random.between(1, 255) as u8,
     }
-    let block = case.stripe * case.array.data_members() as u64 + index as u64;
+    let block = case.array.blocks_of(case.stripe)[index];
     if let Ok(updated) = stripe::update(&case.array, block, &data, &case.bytes) {
         let written = case.format().span(random.pick(&[member, parity]));
         case.bytes[written.clone()].copy_from_slice(&updated[written]);
@@ -617,10 +637,11 @@ fn guard_of_other_method(case: &mut Case, member: usize, random: &mut Random) {
 
 /// The parity's tag as the exclusive-or of the other tags.
 fn parity_tag_combined(case: &mut Case, _: usize, _: &mut Random) {
-    let row = case.array.row(case.stripe);
+    let owners = case.array.owners(case.stripe);
     let format = case.format();
     let mut tag = vec![0; format.tag()];
-    for member in (0..row.len()).filter(|member| matches!(row[*member], Owner::Data { .. })) {
+    let holds_data = |member: &usize| matches!(owners[*member], Owner::Data { .. });
+    for member in (0..owners.len()).filter(holds_data) {
         for (sum, byte) in tag.iter_mut().zip(&case.block(member)[format.data..]) {
             *sum ^= byte;
         }

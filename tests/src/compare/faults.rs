@@ -26,7 +26,7 @@ const REFERENCE: Fits = Fits {
 /// The block of a member: what stands in its fields, and what is due there. A guard that nobody checks is expected as found.
 fn fields(case: &Case, member: usize) -> Fields {
     let block = &case.bytes[case.format().span(member)];
-    let (kind, number) = match case.array.row(case.stripe)[member] {
+    let (kind, number) = match case.array.owners(case.stripe)[member] {
         Owner::Parity { lowest } => (0x8000, lowest),
         Owner::Data { block } => (0x0000, block),
     };
@@ -168,7 +168,8 @@ impl<'a> Faults<'a> {
     /// The block that belongs on the same member some turns of the parity further on: data to data, parity to parity.
     fn of_other_stripe(&mut self, member: usize, random: &mut Random) -> Outcome<()> {
         let mut case = self.sealed.clone();
-        let stripe = case.stripe + case.array.members as u64 * random.between(1, 3);
+        let turn = case.array.members as u64 * u64::from(case.array.row);
+        let stripe = case.stripe + turn * random.between(1, 3);
         let data = random.bytes(case.format().data);
         let guard = guard_of(&case.array, &data);
         let block = stripe::tagged(&case.array, stripe, member, &data, guard);

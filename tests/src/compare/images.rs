@@ -2,7 +2,7 @@
 
 use super::cases::{self, Case};
 use super::standing::{self, Standing};
-use super::{Outcome, Tally, VERDICTS, faults_name, tally};
+use super::{Outcome, Tally, VERDICTS, faults_name, known, tally};
 use crate::program::{self, Input};
 use crate::random::Random;
 use model::format::Format;
@@ -20,6 +20,9 @@ const IMAGES: usize = 450;
 /// How many stripes an image of torn ones has.
 const TORN: usize = 512;
 
+/// The versions of a header are 1 to this one.
+const LAST_VERSION: u8 = 3;
+
 /// Places in a block: the ends of the data, and each byte of the tag.
 fn places(format: &Format) -> Vec<usize> {
     [0, 1]
@@ -28,9 +31,9 @@ fn places(format: &Format) -> Vec<usize> {
         .collect()
 }
 
-/// Headers and the numbers of their refusals: where several numbers fit, 10 goes first, then 1, then 2.
+/// Headers and the numbers of their refusals: where several numbers fit, 10 goes first, then 1, 2, 12 and 13.
 #[rustfmt::skip]
-const REFUSED: [(u32, &[u8]); 52] = [
+const REFUSED: [(u32, &[u8]); 76] = [
     (10, &[0, 6, 1, 3, 7, 0, 0, 0, 1]),
     (10, &[0, 8, 1, 3, 7, 0, 0, 0, 1]),
     (10, &[1, 7, 1, 3, 7, 0, 0, 0, 1]),
@@ -50,7 +53,15 @@ const REFUSED: [(u32, &[u8]); 52] = [
     (10, &[1, 8, 2, 3, 7, 0, 0, 0, 1, 2]),
     (10, &[8, 0, 2, 3, 7, 0, 0, 0, 1, 2]),
     (10, &[0, 9, 2, 3, 7, 0, 0, 0, 1, 2]),
-    (10, &[0, 9, 3, 3, 7, 0, 0, 0, 1, 2, 1]),
+    (10, &[0, 9, 2, 3, 7, 0, 0, 0, 1, 2, 1]),
+    (10, &[0, 8, 3, 3, 7, 0, 0, 0, 1, 2, 1]),
+    (10, &[0, 10, 3, 3, 7, 0, 0, 0, 1, 2, 1]),
+    (10, &[9, 0, 3, 3, 7, 0, 0, 0, 1, 2, 1]),
+    (10, &[1, 9, 3, 3, 7, 0, 0, 0, 1, 2, 1]),
+    (10, &[0, 9, 4, 3, 7, 0, 0, 0, 1, 2, 1]),
+    (10, &[0, 9, 1, 3, 7, 0, 0, 0, 1, 1, 1]),
+    (10, &[0, 9, 0, 2, 7, 0, 0, 0, 0, 0, 0]),
+    (10, &[0, 13, 4, 3, 7, 0, 0, 0, 0, 0, 0, 0, 1, 1, 1]),
     (10, &[0, 9, 2, 2, 7, 0, 0, 0, 0, 3]),
     (10, &[0, 10, 2, 3, 7, 0, 0, 0, 1, 2]),
     (1, &[0, 7, 1, 0, 7, 0, 0, 0, 1]),
@@ -66,6 +77,8 @@ const REFUSED: [(u32, &[u8]); 52] = [
     (1, &[0, 8, 2, 2, 7, 0, 0, 0, 1, 3]),
     (1, &[0, 8, 2, 2, 7, 0, 0, 0, 1, 4]),
     (1, &[0, 8, 2, 17, 7, 0, 0, 0, 0, 0]),
+    (1, &[0, 9, 3, 2, 7, 0, 0, 0, 1, 1, 1]),
+    (1, &[0, 9, 3, 17, 7, 0, 0, 0, 0, 4, 3]),
     (2, &[0, 7, 1, 3, 7, 0, 0, 0, 0]),
     (2, &[0, 7, 1, 3, 7, 16, 0, 0, 1]),
     (2, &[0, 7, 1, 16, 7, 128, 0, 0, 1]),
@@ -75,6 +88,8 @@ const REFUSED: [(u32, &[u8]); 52] = [
     (2, &[0, 8, 2, 3, 7, 0, 0, 0, 0, 0]),
     (2, &[0, 8, 2, 3, 7, 16, 0, 0, 1, 3]),
     (2, &[0, 8, 2, 16, 7, 16, 0, 0, 1, 255]),
+    (2, &[0, 9, 3, 3, 7, 0, 0, 0, 0, 1, 1]),
+    (2, &[0, 9, 3, 3, 7, 16, 0, 0, 1, 4, 3]),
     (12, &[0, 8, 2, 3, 7, 0, 0, 0, 1, 0]),
     (12, &[0, 8, 2, 3, 7, 0, 0, 0, 1, 4]),
     (12, &[0, 8, 2, 5, 7, 0, 0, 0, 6, 4]),
@@ -83,15 +98,25 @@ const REFUSED: [(u32, &[u8]); 52] = [
     (12, &[0, 8, 2, 16, 7, 0, 0, 0, 1, 131]),
     (12, &[0, 8, 2, 3, 0, 0, 0, 0, 1, 254]),
     (12, &[0, 8, 2, 3, 255, 0, 0, 0, 1, 255]),
+    (12, &[0, 9, 3, 3, 7, 0, 0, 0, 1, 0, 1]),
+    (12, &[0, 9, 3, 3, 7, 0, 0, 0, 1, 4, 3]),
+    (12, &[0, 9, 3, 3, 7, 0, 0, 0, 1, 255, 2]),
+    (13, &[0, 9, 3, 3, 7, 0, 0, 0, 1, 1, 0]),
+    (13, &[0, 9, 3, 3, 7, 0, 0, 0, 1, 1, 2]),
+    (13, &[0, 9, 3, 3, 7, 0, 0, 0, 3, 2, 3]),
+    (13, &[0, 9, 3, 5, 7, 0, 0, 0, 5, 3, 5]),
+    (13, &[0, 9, 3, 5, 7, 0, 0, 0, 6, 1, 6]),
+    (13, &[0, 9, 3, 5, 7, 0, 0, 0, 6, 1, 4]),
+    (13, &[0, 9, 3, 16, 7, 0, 0, 1, 192, 1, 128]),
+    (13, &[0, 9, 3, 16, 7, 16, 0, 0, 0, 3, 129]),
+    (13, &[0, 9, 3, 16, 7, 0, 0, 0, 255, 3, 255]),
 ];
 
-/// The header of an image, of a version that can say the method.
+/// The header of an image, of a version that can say its numbers.
 fn any_version(array: &Array, random: &mut Random) -> Vec<u8> {
-    let version = match array.method {
-        1 => random.pick(&[1, 2]),
-        _ => 2,
-    };
-    report::header_of(version, array)
+    let first = report::first_version(array);
+    let version = random.between(first.into(), LAST_VERSION.into());
+    report::header_of(version as u8, array)
 }
 
 /// Writes an image in pieces that are random and small. Now and then it waits, so that the program reads less than it has room for.
@@ -127,7 +152,7 @@ fn letters_name(letters: &str) -> &'static str {
 fn method_of(image: &[u8]) -> u8 {
     match image {
         [_, _, 1, ..] => 1,
-        [_, _, 2, _, _, _, _, _, _, method, ..] => *method,
+        [_, _, 2 | 3, _, _, _, _, _, _, method, ..] => *method,
         _ => 0,
     }
 }
@@ -179,7 +204,7 @@ impl Compared {
         compared
             .and_then(|((), found)| same_report(&due, &found))
             .map_err(|difference| {
-                let header = &image[..image.len().min(10)];
+                let header = &image[..image.len().min(11)];
                 let length = image.len();
                 format!("{what}, {length} bytes, header {header:02X?}: {difference}")
             })?;
@@ -205,6 +230,7 @@ impl Compared {
             stripes: stripes as u64,
             volume: cases::any_volume(random),
             method,
+            row: cases::row_of(stripes as u64, random),
         };
         let mut image = any_version(&array, random);
         for stripe in 0..array.stripes {
@@ -353,9 +379,10 @@ fn ends(
 ) -> Outcome<()> {
     let array = Array {
         members,
-        stripes: 3,
+        stripes: 4,
         volume: random.next() as u8,
         method,
+        row: if version == 3 { 2 } else { 1 },
     };
     let length = array.stripe_length();
     let mut image = report::header_of(version, &array);
@@ -366,7 +393,7 @@ fn ends(
     for cut in 0..=header {
         compared.compare("cut in its header or after it", &image[..cut], random)?;
     }
-    for stripe in [0, 1, 2] {
+    for stripe in 0..4 {
         let begin = header + stripe * length;
         let block = array.format().block();
         for more in (0..=array.format().tag())
@@ -378,7 +405,7 @@ fn ends(
         let cut = begin + 1 + random.below(length - 1);
         compared.compare("cut in a stripe", &image[..cut], random)?;
     }
-    for stripes in [1, 2] {
+    for stripes in [1, 2, 3] {
         let cut = header + stripes * length;
         compared.compare("cut at a stripe's end", &image[..cut], random)?;
     }
@@ -404,37 +431,48 @@ fn refused_headers(compared: &mut Compared, random: &mut Random) -> Outcome<()> 
     Ok(())
 }
 
-/// Every version with the length of each that there is, and every method, before a stripe sealed by one of the methods. What is due is known.
+/// Every version with the length of each that there is, every method, and every row length, before a stripe sealed by one of the methods. What is due is
+/// known.
 fn every_number(compared: &mut Compared, random: &mut Random) -> Outcome<()> {
     let array = Array {
         stripes: 1,
+        row: 1,
         ..any_array(random)
     };
     let stripe = Case::sealed(array, 0, random).bytes;
-    let members = array.members as u8;
+    let header = |[length, version]: [u8; 2], stripes: u8, rest: &[u8]| {
+        let (members, volume) = (array.members as u8, array.volume);
+        let first = [0, length, version, members, volume, 0, 0, 0, stripes];
+        [&first[..], rest].concat()
+    };
     for number in 0..=u8::MAX {
-        let versions = [7, 8].map(|length| {
+        let versions = [7, 8, 9].map(|length| {
             let refused = match (number, length) {
                 (1, 7) => None,
-                (2, 8) => Some(12),
+                (2, 8) | (3, 9) => Some(12),
                 _ => Some(10),
             };
-            (
-                [0, length, number, members, array.volume, 0, 0, 0, 1, 0],
-                refused,
-            )
+            (header([length, number], 1, &[0, 0]), refused)
         });
-        let refused = (!cases::METHODS.contains(&number)).then_some(12);
-        let method = (
-            [0, 8, 2, members, array.volume, 0, 0, 0, 1, number],
-            refused,
-        );
-        for (header, refused) in versions.into_iter().chain([method]) {
+        let no_method = (!cases::METHODS.contains(&number)).then_some(12);
+        let no_row = (!cases::ROWS.contains(&number)).then_some(13);
+        let others = [
+            (header([8, 2], 1, &[number]), no_method),
+            (header([9, 3], 1, &[number, 1]), no_method),
+            (header([9, 3], 128, &[array.method, number]), no_row),
+            (
+                header([9, 3], 1, &[array.method, number]),
+                (number != 1).then_some(13),
+            ),
+        ];
+        for (header, refused) in versions.into_iter().chain(others) {
             let image = [&header[..], &stripe].concat();
-            if let Some(refused) = refused {
-                same_report(&format!("REFUSED {refused}\n"), &report::report(&image))
-                    .map_err(|difference| format!("the model at {header:02X?}: {difference}"))?;
+            let reported = report::report(&image);
+            match refused {
+                Some(refused) => same_report(&format!("REFUSED {refused}\n"), &reported),
+                None => known(true, reported.starts_with("SCRUB ")),
             }
+            .map_err(|difference| format!("the model at {header:02X?}: {difference}"))?;
             compared.compare("every number", &image, random)?;
         }
     }
@@ -446,13 +484,13 @@ fn any_header(compared: &mut Compared, random: &mut Random) -> Outcome<()> {
     let mut image = any_version(&any_array(random), random);
     let header = image.len();
     for _ in 0..random.between(1, 2) {
-        let place = random.pick(&[0, 1, 2, 3, 3, 5, 5, header - 1, header - 1]);
+        let place = random.pick(&[0, 1, 2, 3, 3, 5, 5, header - 2, header - 1, header - 1]);
         image[place] = random.next() as u8;
     }
     match random.below(24) {
         0..3 => image[8] = 0,
-        3 => image[1] = 15u8.wrapping_sub(image[1]),
-        4 => image[2] = 3 - image[2].min(3),
+        3 => image[1] = random.pick(&[7, 8, 9]),
+        4 => image[2] = random.pick(&[1, 2, 3]),
         _ => {}
     }
     match random.below(4) {
@@ -468,11 +506,13 @@ fn any_header(compared: &mut Compared, random: &mut Random) -> Outcome<()> {
 
 fn any_array(random: &mut Random) -> Array {
     let any = random.between(3, 16) as usize;
+    let stripes = random.between(1, 8);
     Array {
         members: random.pick(&[3, 5, 16, any]),
-        stripes: random.between(1, 8),
+        stripes,
         volume: random.next() as u8,
         method: random.pick(&cases::METHODS),
+        row: cases::row_of(stripes, random),
     }
 }
 
@@ -504,7 +544,7 @@ pub fn compare(random: &mut Random) -> Outcome<String> {
         for method in cases::METHODS {
             verdicts(members, method, &mut compared, random)?;
         }
-        for said in [(1, 1), (2, 1), (2, 2), (2, 3)] {
+        for said in [(1, 1), (2, 1), (2, 2), (2, 3), (3, 1), (3, 2), (3, 3)] {
             ends(members, said, &mut compared, random)?;
         }
     }
@@ -514,9 +554,9 @@ pub fn compare(random: &mut Random) -> Outcome<String> {
     for _ in 0..IMAGES {
         any_stripes(&mut compared, random)?;
     }
-    compared.lines.of("lines", "512 1 2 10 12")?;
+    compared.lines.of("lines", "512 1 2 10 12 13")?;
     Ok(format!(
-        "{} of both versions alike, through a pipe in small writes: {}",
+        "{} of all versions alike, through a pipe in small writes: {}",
         compared.images,
         compared
             .lines

@@ -1,5 +1,6 @@
 //! Blocks and tags that a Linux kernel wrote: good where they belong, bad with any bit changed or anywhere else, and unchecked once they are marked.
 
+use super::cases::ROWS;
 use super::{Outcome, known, same, tag};
 use crate::lent::Lent;
 use crate::library;
@@ -7,6 +8,7 @@ use crate::random::Random;
 use model::guard::guard;
 use model::layout::{Array, Owner, Place};
 use model::stripe::{Checked, Fits, UNCHECKED};
+use std::collections::BTreeSet;
 use std::ops::Range;
 
 /// One block a line: its number, its data and its tag. The README beside the file tells where they come from.
@@ -75,12 +77,16 @@ fn due(array: &Array, place: Place, bytes: &[u8], fits: Fits) -> Outcome<()> {
     known(fits, found).map_err(|difference| format!("{place:?} of {array:?}: {difference}"))
 }
 
-/// At every other place of the stripe, of its neighbours and of those a turn of the parity away, the kind or the number is wrong, or both;
+/// At every other place of the stripe, of its neighbours, of those a row away and of those a turn of the parity away, the kind or the number is wrong, or both;
 /// for every other volume just that is, and by the checksum just the guard. For method 3 it is too short.
 fn elsewhere(array: &Array, place: Place, bytes: &[u8], seen: &mut Seen) -> Outcome<()> {
-    let turn = array.members as i64;
-    let near = [-turn, -1, 0, 1, turn].map(|far| place.stripe.checked_add_signed(far));
-    for stripe in near.into_iter().flatten() {
+    let row = i64::from(array.row);
+    let turn = array.members as i64 * row;
+    let near = BTreeSet::from([-turn, -row, -1, 0, 1, row, turn]);
+    for stripe in near
+        .into_iter()
+        .filter_map(|far| place.stripe.checked_add_signed(far))
+    {
         for member in 0..array.members {
             let other = Place { stripe, member };
             let (application, number) = match array.owner(stripe, member) {
@@ -155,13 +161,14 @@ fn marked(array: &Array, place: Place, bytes: &[u8]) -> Outcome<()> {
     Ok(())
 }
 
-/// The largest array of each number of members.
+/// The largest array of each number of members, every row length among them.
 fn arrays() -> impl Iterator<Item = Array> {
     (3..=16).map(|members| Array {
         members,
         stripes: STRIPES,
         volume: VOLUME,
         method: 1,
+        row: ROWS[members % ROWS.len()],
     })
 }
 

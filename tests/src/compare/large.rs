@@ -1,7 +1,7 @@
 //! The report program on images much larger than its buffers, made while they are fed: nothing is lost at a buffer's edge, and memory stays flat.
 
 use super::Outcome;
-use super::cases::{Case, METHODS};
+use super::cases::{Case, METHODS, ROWS};
 use super::images::same_report;
 use crate::program::{self, Input};
 use crate::random::Random;
@@ -30,15 +30,17 @@ struct Stripes {
 }
 
 impl Stripes {
-    /// Stripes of three members, so that there are many; together at least so many bytes.
+    /// Stripes of three members, so that there are many, in rows of any length; together at least so many bytes.
     fn of(length: usize, method: u8, random: &mut Random) -> Self {
         let mut array = Array {
             members: 3,
             stripes: 1,
             volume: random.next() as u8,
             method,
+            row: random.pick(&ROWS),
         };
-        array.stripes = length.div_ceil(array.stripe_length()) as u64;
+        let stripes = length.div_ceil(array.stripe_length()) as u64;
+        array.stripes = stripes.next_multiple_of(array.row.into());
         Stripes {
             array,
             next: 0,
@@ -159,7 +161,8 @@ fn piped(method: u8, random: &mut Random) -> Outcome<String> {
         ));
     }
     Ok(format!(
-        "{length} bytes through a pipe alike ({}), memory at most {early} KiB after the first MiB and {late} KiB at the end",
+        "row length {}, {length} bytes through a pipe alike ({}), memory at most {early} KiB after the first MiB and {late} KiB at the end",
+        array.row,
         total.trim_end()
     ))
 }

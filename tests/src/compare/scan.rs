@@ -375,6 +375,7 @@ fn any_state(random: &mut Random) -> Scan {
         stripes: array.stripes,
         volume: array.volume,
         method: array.method,
+        row: array.row,
         stripe,
         ..Scan::ZEROS
     };
@@ -507,7 +508,7 @@ pub fn compare(random: &mut Random) -> Outcome<String> {
     let listed = calls(&listed, "done", "done 5 7", &format!("{VERDICTS} 8"))?;
     let single = calls(
         &single,
-        "done 1 2 3 6",
+        "done 1 2 3 6 13",
         "done 4 5 6 7",
         &format!("{VERDICTS} 4 6 8"),
     )?;

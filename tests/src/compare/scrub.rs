@@ -119,7 +119,7 @@ pub fn compare(random: &mut Random) -> Outcome<String> {
         refusals(random, &mut tally)?;
     }
     let calls = [
-        tally.of_each("scrub", &format!("{VERDICTS} 1 2 3 6"))?,
+        tally.of_each("scrub", &format!("{VERDICTS} 1 2 3 6 13"))?,
         tally.of("quick scrub", "fits differs 1")?,
         tally.of_each("clean", "fits")?,
         tally.of_some(&[1, 3], "torn within the guard's bits", "differs")?,

@@ -272,8 +272,8 @@ impl Made {
     /// Every call, on every member and every block.
     fn calls(&self, random: &mut Random, tally: &mut Tally) -> Outcome<()> {
         verdict(&self.case, self.verdict, random, tally)?;
-        let row = self.case.array.row(self.case.stripe);
-        for (member, owner) in row.into_iter().enumerate() {
+        let owners = self.case.array.owners(self.case.stripe);
+        for (member, owner) in owners.into_iter().enumerate() {
             self.check(member)?;
             self.rebuild(member, tally)?;
             if let Owner::Data { block } = owner {
@@ -340,7 +340,7 @@ impl Sentences {
         Sentences {
             sealed,
             one: data[first],
-            block: stripe * data.len() as u64 + first as u64,
+            block: array.blocks_of(stripe)[first],
             other: data[second],
             parity,
         }

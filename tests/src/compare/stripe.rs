@@ -105,15 +105,15 @@ fn jobs(case: &Case, random: &mut Random, tally: &mut Tally) -> Outcome<()> {
         bytes,
     } = case;
     seal(array, *stripe, data, &random.bytes(bytes.len()), tally)?;
-    let lowest = stripe * array.data_members() as u64;
+    let blocks = array.blocks_of(*stripe);
     let length = case.format().data;
     let out = random.bytes(length);
-    for block in lowest..lowest + array.data_members() as u64 {
-        read(array, block, bytes, &out, tally)?;
+    for block in &blocks {
+        read(array, *block, bytes, &out, tally)?;
     }
     for _ in 0..2 {
         rebuild(array, *stripe, random.below(array.members), bytes, tally)?;
-        let block = lowest + random.below(array.data_members()) as u64;
+        let block = random.pick(&blocks);
         update(array, block, &random.bytes(length), bytes, tally)?;
     }
     Ok(())
@@ -147,10 +147,10 @@ pub fn compare(random: &mut Random) -> Outcome<String> {
         refusals(random, &mut tally)?;
     }
     let calls = [
-        tally.of_each("seal", "done 1 2 3 6")?,
-        tally.of_each("read", "stored rebuilt unchecked 1 2 3 6 9")?,
-        tally.of_each("rebuild", "done 1 2 3 5 6 9")?,
-        tally.of_each("update", "done 1 2 3 6 9")?,
+        tally.of_each("seal", "done 1 2 3 6 13")?,
+        tally.of_each("read", "stored rebuilt unchecked 1 2 3 6 9 13")?,
+        tally.of_each("rebuild", "done 1 2 3 5 6 9 13")?,
+        tally.of_each("update", "done 1 2 3 6 9 13")?,
     ];
     for call in ["seal", "read", "rebuild", "update"] {
         tally.of(call, "12")?;

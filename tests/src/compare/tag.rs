@@ -100,7 +100,7 @@ pub fn compare(random: &mut Random) -> Outcome<String> {
     tally.of("check", "12")?;
     let calls = tally.of_each(
         "check",
-        "--- G-- -A- --R GA- G-R -AR GAR unchecked 1 2 3 5 6",
+        "--- G-- -A- --R GA- G-R -AR GAR unchecked 1 2 3 5 6 13",
     )?;
     Ok(format!(
         "calls alike by all methods on {stripes} stripes and at refusals: {calls}"

@@ -14,7 +14,7 @@ pub struct Tally {
 /// The name of a refusal.
 pub fn refused(number: u32) -> &'static str {
     #[rustfmt::skip]
-    const NAMES: [&str; 13] = ["0", "1", "2", "3", "4", "5", "6", "7", "8", "9", "10", "11", "12"];
+    const NAMES: [&str; 14] = ["0", "1", "2", "3", "4", "5", "6", "7", "8", "9", "10", "11", "12", "13"];
     NAMES[number as usize]
 }
 

@@ -98,10 +98,9 @@ impl Cut {
     fn on(sealed: Case, blocks: Blocks, [first, second]: [usize; 2]) -> Self {
         let parity = sealed.array.parity_member(sealed.stripe);
         let member = |index| index + usize::from(index >= parity);
-        let lowest = sealed.stripe * sealed.array.data_members() as u64;
         Cut {
             one: member(first),
-            number: lowest + first as u64,
+            number: sealed.array.blocks_of(sealed.stripe)[first],
             other: member(second),
             sealed,
             blocks,
@@ -194,7 +193,7 @@ impl Cut {
         let length = case.format().data;
         for _ in 0..UPDATES {
             let index = random.below(case.array.data_members());
-            let block = case.stripe * case.array.data_members() as u64 + index as u64;
+            let block = case.array.blocks_of(case.stripe)[index];
             let new = random.bytes(length);
             jobs::update(&case.array, block, &new, &case.bytes, tally)?;
             case.data[index * length..][..length].copy_from_slice(&new);
@@ -313,7 +312,7 @@ fn read(
     random: &mut Random,
     tally: &mut Tally,
 ) -> Outcome<Option<model::Answer<Read>>> {
-    match case.array.row(case.stripe)[member] {
+    match case.array.owners(case.stripe)[member] {
         Owner::Data { block } => standing::read(case, block, random, tally).map(Some),
         Owner::Parity { .. } => Ok(None),
     }
@@ -392,11 +391,14 @@ fn cases_of(method: u8, members: usize, random: &mut Random, tally: &mut Tally) 
 
 /// The worked stripe of document 000: blocks A to D with the parity last, block A updated and block B lost, in both of its cases.
 fn worked(method: u8, random: &mut Random, tally: &mut Tally) -> Outcome<()> {
+    let row = random.pick(&cases::ROWS);
+    let in_row = u64::from(row);
     let array = Array {
         members: 5,
-        stripes: random.between(5, 268_435_456),
+        stripes: in_row * random.between(5, 268_435_456 / in_row),
         volume: cases::any_volume(random),
         method,
+        row,
     };
     let columns = [
         [0x9, 0x0, 0x8, 0x6, 0x1],
@@ -411,7 +413,8 @@ fn worked(method: u8, random: &mut Random, tally: &mut Tally) -> Outcome<()> {
         new: worked(&[0x4, 0xA, 0x8, 0x7, 0x3]),
         other: b.clone(),
     };
-    let sealed = Case::over(array, 4, [a, b, c, d].concat());
+    let stripe = random.between(4 * in_row, 5 * in_row - 1);
+    let sealed = Case::over(array, stripe, [a, b, c, d].concat());
     let cut = Cut::on(sealed, blocks, [0, 1]);
     let rebuilt = worked(&[0x9, 0x5, 0xF, 0x0, 0x7]);
     known(&rebuilt, &cut.wrong())?;

@@ -4,19 +4,32 @@ use super::Answer;
 use super::layout::Array;
 use super::stripe::{self, Fits, Verdict};
 
-/// The header of an image, of the first version where that says enough.
+/// The header of an image, of the first version that says enough.
 pub fn header(array: &Array) -> Vec<u8> {
-    header_of(if array.method == 1 { 1 } else { 2 }, array)
+    header_of(first_version(array), array)
 }
 
-/// The header of an image: how many bytes follow in it, the version, and the array's numbers, of which the first version leaves out the method.
+/// The first version that can say an array's numbers.
+pub fn first_version(array: &Array) -> u8 {
+    match (array.method, array.row) {
+        (1, 1) => 1,
+        (_, 1) => 2,
+        _ => 3,
+    }
+}
+
+/// The header of an image: how many bytes follow in it, the version, and the array's numbers, of which the first version leaves out the method,
+/// and the first two the row length.
 pub fn header_of(version: u8, array: &Array) -> Vec<u8> {
     let members = u8::try_from(array.members).expect("a header has one byte for the members");
     let stripes = u32::try_from(array.stripes).expect("a header has four bytes for the stripes");
     let mut rest = vec![version, members, array.volume];
     rest.extend(stripes.to_be_bytes());
-    if version == 2 {
+    if version >= 2 {
         rest.push(array.method);
+    }
+    if version >= 3 {
+        rest.push(array.row);
     }
     let length = rest.len() as u16;
     [&length.to_be_bytes()[..], &rest].concat()
@@ -24,13 +37,27 @@ pub fn header_of(version: u8, array: &Array) -> Vec<u8> {
 
 /// The array that the header of an image speaks of, and what follows the header.
 fn opened(image: &[u8]) -> Answer<(Array, &[u8])> {
-    let (members, volume, stripes, method, body) = match *image {
+    let (members, volume, stripes, [method, row], body) = match *image {
         [0, 7, 1, n, volume, s0, s1, s2, s3, ref body @ ..] => {
-            (n, volume, [s0, s1, s2, s3], 1, body)
+            (n, volume, [s0, s1, s2, s3], [1, 1], body)
         }
         [0, 8, 2, n, volume, s0, s1, s2, s3, method, ref body @ ..] => {
-            (n, volume, [s0, s1, s2, s3], method, body)
+            (n, volume, [s0, s1, s2, s3], [method, 1], body)
         }
+        [
+            0,
+            9,
+            3,
+            n,
+            volume,
+            s0,
+            s1,
+            s2,
+            s3,
+            method,
+            row,
+            ref body @ ..,
+        ] => (n, volume, [s0, s1, s2, s3], [method, row], body),
         _ => return Err(10),
     };
     let array = Array {
@@ -38,6 +65,7 @@ fn opened(image: &[u8]) -> Answer<(Array, &[u8])> {
         stripes: u64::from(u32::from_be_bytes(stripes)),
         volume,
         method,
+        row,
     };
     array.fits().map(|()| (array, body))
 }

@@ -13,6 +13,7 @@ pub struct Scan {
     pub stripes: u64,
     pub volume: u8,
     pub method: u8,
+    pub row: u8,
     pub stripe: u64,
     pub at: [u16; 16],
     pub register: [u32; 16],
@@ -26,6 +27,7 @@ impl Scan {
         stripes: 0,
         volume: 0,
         method: 0,
+        row: 0,
         stripe: 0,
         at: [0; 16],
         register: [0; 16],
@@ -129,6 +131,7 @@ fn opened(array: &Array, stripe: u64) -> Scan {
         stripes: array.stripes,
         volume: array.volume,
         method: array.method,
+        row: array.row,
         stripe,
         register: [start; 16],
         ..Scan::ZEROS
@@ -150,6 +153,7 @@ fn fit(state: &Scan) -> Answer<Array> {
         stripes: state.stripes,
         volume: state.volume,
         method: state.method,
+        row: state.row,
     };
     array.stripe_fits(state.stripe).map_err(|_| 4u32)?;
     for member in 0..array.members {

@@ -116,7 +116,7 @@ pub fn combine<'a>(format: &Format, blocks: impl Iterator<Item = &'a [u8]>) -> V
 /// The tag due at a place where the data have this guard: guard, application tag, zeros where bytes are spare, reference tag. The numbers of an
 /// array's blocks all have 32 bits, so that of the eight bytes which a reference tag has by method 3 the first four are zero so far.
 pub fn due(array: &Array, stripe: u64, member: usize, guard: u32) -> Vec<u8> {
-    let (kind, number) = match array.row(stripe)[member] {
+    let (kind, number) = match array.owners(stripe)[member] {
         Owner::Parity { lowest } => (0x80, lowest),
         Owner::Data { block } => (0x00, block),
     };
@@ -242,7 +242,7 @@ pub fn seal(array: &Array, stripe: u64, data: &[u8], bytes: &[u8]) -> Answer<Vec
     let parity = combine(&format, data.chunks(format.data));
     let mut blocks = data.chunks(format.data);
     let mut whole = Vec::new();
-    for (member, owner) in array.row(stripe).iter().enumerate() {
+    for (member, owner) in array.owners(stripe).iter().enumerate() {
         let block = match owner {
             Owner::Parity { .. } => &parity,
             Owner::Data { .. } => blocks.next().expect("a block for each data member"),

@@ -1,7 +1,8 @@
--- `owner` answers `ownerNumbers`: told by the member that holds the parity. Assumes nothing.
+-- `owner` answers `ownerNumbers`: told by what its stripe is found by. Assumes nothing.
 use mathlib.Core.Path.{sym, _∙_}
 use borrow.Author.Needs.{needs}
-use Rattle.layout.proofs.Numbers.{owner-refused, beside-right}
+use Rattle.layout.proofs.Ranges.{place-sound, sound-stripe}
+use Rattle.layout.proofs.Numbers.{owner-refused}
 use Rattle.layout.proofs.owner.Statement.{statement}
 use Rattle.layout.proofs.owner.Tie as tie
 
@@ -14,16 +15,14 @@ returns c =
     let e = c .before .owner-refusal .ensures in
     rw (e, owner-refused (a .array) (a .stripe) (a .member) (rw e at (c .if1 .taken)))
 
-parity-member-requires : tie.Need-parity-member-requires
-parity-member-requires c κs = search needs
+seat-of-requires : tie.Need-seat-of-requires
+seat-of-requires c κs = sound-stripe _ _ (place-sound _ _ _ (sym (c .before .owner-refusal .ensures) ∙ c .if1 .left) .stripe)
 
 owner-beside-requires : tie.Need-owner-beside-requires
-owner-beside-requires c κs = sym (c .before .before .owner-refusal .ensures) ∙ c .before .if1 .left
+owner-beside-requires c κs = (sym (c .before .before .owner-refusal .ensures) ∙ c .before .if1 .left, c .seat-of .ensures)
 
 returns-2 : tie.Need-returns-2
-returns-2 c =
-    let a = c .before .before .before .before .args in
-    c .owner-beside .ensures ∙ beside-right (a .array) (a .stripe) (c .before .parity-member .result) (a .member) (c .before .parity-member .ensures)
+returns-2 c = search needs
 
 pub owner-spec : {M : Type 1} → statement M
 owner-spec =
@@ -31,6 +30,6 @@ owner-spec =
     (tie.spec
     owner-refusal-requires
     returns
-    parity-member-requires
+    seat-of-requires
     owner-beside-requires
     returns-2)

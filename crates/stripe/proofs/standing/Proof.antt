@@ -3,6 +3,7 @@
 use mathlib.Core.Path.{ap, _∙_}
 use native.Mathlib.Omega.{arith}
 use Rattle.format.specs.Formats.{guard}
+use Rattle.layout.proofs.Ranges.{place-sound, sound-stripe}
 use Rattle.tag.specs.Blocks.{formatAt}
 use Rattle.stripe.proofs.Checked.{stands-there}
 use Rattle.stripe.proofs.Served.{lent-data}
@@ -31,8 +32,10 @@ part-guard-end c = let F = formatAt (c .before .before .before .args .array) in 
 guard-requires : tie.Need-guard-requires
 guard-requires c κs = search needs
 
-parity-member-requires : tie.Need-parity-member-requires
-parity-member-requires c κs = search needs
+seat-of-requires : tie.Need-seat-of-requires
+seat-of-requires c κs =
+    let s = c .before .before .before .before .before in
+    sound-stripe _ _ (place-sound _ _ _ (s .pre .0) .stripe)
 
 stored-requires : tie.Need-stored-requires
 stored-requires c κs = search needs
@@ -62,7 +65,7 @@ standing-spec =
     part-guard-start
     part-guard-end
     guard-requires
-    parity-member-requires
+    seat-of-requires
     stored-requires
     standing-by-requires
     returns)

@@ -24,6 +24,9 @@ number-in-requires c κs =
 later-requires : tie.Need-later-requires
 later-requires c κs = search needs
 
+later-requires-2 : tie.Need-later-requires-2
+later-requires-2 c κs = search needs
+
 array-read-array-of : tie.Need-array-read-array-of
 array-read-array-of c = search needs
 
@@ -39,9 +42,10 @@ array-of-requires c κs = search needs
 returns : tie.Need-returns
 unfolding arrayIn
 returns c =
-    let l = c .before in
+    let k = c .before in
+    let l = k .before in
     let n = l .before in
-    c .array-of .ensures ∙ rw (l .later .ensures, n .number-in .ensures, n .before .form-of .ensures)
+    c .array-of .ensures ∙ rw (k .later2 .ensures, l .later .ensures, n .number-in .ensures, n .before .form-of .ensures)
 
 pub array-in-spec : {M : Type 1} → statement M
 array-in-spec =
@@ -51,6 +55,7 @@ array-in-spec =
     form-of-requires
     number-in-requires
     later-requires
+    later-requires-2
     array-read-array-of
     cast-array-of
     array-read-array-of-2

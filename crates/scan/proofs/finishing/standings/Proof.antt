@@ -17,15 +17,15 @@ use Rattle.scan.proofs.finishing.standings.Statement.{statement}
 use Rattle.scan.proofs.finishing.standings.Tie as tie
 
 abbrev Inv-loop : tie.InvT-loop
-Inv-loop tags array stripe values waiting members method parity standing₀ member₀ standing member =
+Inv-loop tags array stripe values waiting members method seat standing₀ member₀ standing member =
     (member ≤ array .members) × (length standing ≡ 16)
     × (take member standing ≡ table member (λ m. heldStanding array stripe m (registerFrom (formatAt array) (getD values m 0) (getD waiting m 0)) tags))
 
 abbrev μ-loop : tie.MeasureT-loop
-μ-loop tags array stripe values waiting members method parity standing₀ member₀ standing member = members - member
+μ-loop tags array stripe values waiting members method seat standing₀ member₀ standing member = members - member
 
-parity-member-requires : tie.Need-parity-member-requires Inv-loop μ-loop
-parity-member-requires c κs = search needs
+seat-of-requires : tie.Need-seat-of-requires Inv-loop μ-loop
+seat-of-requires c κs = let s = c .before .before .before .before in s .pre .1 .1 .numbers
 
 loop-holds : tie.Need-loop-holds Inv-loop μ-loop
 loop-holds c = (omega arith, refl, refl)
@@ -61,7 +61,7 @@ standing-requires c κs =
     let s = l .before .before .before .before .before .before in
     let a = s .args .state in (
       sound-place (a .array) (a .stripe) (l .loop .member) record { stripe = stripe-sound (a .array) (a .stripe) (s .pre .1 .1 .numbers); here = omega arith },
-      (s .pre .1 .0, l .before .parity-member .ensures),
+      (s .pre .1 .0, l .before .seat-of .ensures),
     )
 
 array-write-standing : tie.Need-array-write-standing Inv-loop μ-loop
@@ -103,7 +103,7 @@ standings-spec =
     (tie.spec
     Inv-loop
     μ-loop
-    parity-member-requires
+    seat-of-requires
     loop-holds
     mul-register-of
     array-read-register-of

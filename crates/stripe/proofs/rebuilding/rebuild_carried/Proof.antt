@@ -7,6 +7,7 @@ use borrow.Author.Tests.{not-true, not-false}
 use lib.ListN.{length}
 use Rattle.format.proofs.Laws.{carried-piece}
 use Rattle.layout.specs.Answers.{refuse}
+use Rattle.layout.proofs.Ranges.{place-sound, sound-stripe}
 use Rattle.tag.specs.Blocks.{formatAt}
 use Rattle.stripe.specs.Stripes.{othersData}
 use Rattle.stripe.specs.Jobs.{rebuilt}
@@ -53,8 +54,10 @@ returns c =
     let unfit = fitting-by (a .array) (a .stripe) (a .member) (a .bytes .now) (content k) (v .made .ensures .1) (not-true (v .made .result .fits) (c .if1 .taken)) in
     (ap (λ (b : Bool). refuse (not b) 9 0) (sym unfit), ap (λ (b : Bool). cond b (rebuilt (a .array) (a .stripe) (a .member) (a .bytes .now)) (a .bytes .now)) (sym unfit))
 
-parity-member-requires : tie.Need-parity-member-requires
-parity-member-requires c κs = search needs
+seat-of-requires : tie.Need-seat-of-requires
+seat-of-requires c κs =
+    let s = c .before .before .before .before .before .before .before .before .before .before in
+    sound-stripe _ _ (place-sound _ _ _ (s .pre .0) .stripe)
 
 slice-aggregate-write-block : tie.Need-slice-aggregate-write-block
 slice-aggregate-write-block c = search needs
@@ -67,7 +70,7 @@ write-block-requires c κs =
     let a = s .args in
     let F = formatAt (a .array) in
     let count = ap length (content k) ∙ length-othersData F (a .array .members) (a .member) (a .bytes .now) in
-    (s .pre .0, (count, (block-room (a .array) (a .stripe) (a .member) (s .pre .0) (a .bytes .now) (s .pre .1 .0), p .parity-member .ensures)))
+    (s .pre .0, (count, (block-room (a .array) (a .stripe) (a .member) (s .pre .0) (a .bytes .now) (s .pre .1 .0), p .seat-of .ensures)))
 
 same-length-2 : tie.Need-same-length-2
 same-length-2 c = search needs
@@ -95,7 +98,7 @@ rebuild-carried-spec =
     made-requires
     same-length
     returns
-    parity-member-requires
+    seat-of-requires
     slice-aggregate-write-block
     write-block-requires
     same-length-2

@@ -10,7 +10,7 @@ use lib.Seq.{length-sets}
 use Rattle.format.specs.Formats.{guard}
 use Rattle.format.proofs.Combined.{settled-plain}
 use Rattle.format.proofs.Laws.{combines}
-use Rattle.layout.proofs.Ranges.{place-sound}
+use Rattle.layout.proofs.Ranges.{place-sound, sound-stripe}
 use Rattle.tag.specs.Blocks.{formatAt}
 use Rattle.tag.proofs.Guards.{own-plain, guard-own}
 use Rattle.verdict.specs.Verdicts.{combinedGuards}
@@ -35,8 +35,10 @@ make-data-requires c κs =
     let s = c .before .before .before in
     (omega (arith, s .pre .1 .0), place-sound (s .args .array) (s .args .stripe) (s .args .member) (s .pre .0) .here)
 
-parity-member-requires : tie.Need-parity-member-requires
-parity-member-requires c κs = search needs
+seat-of-requires : tie.Need-seat-of-requires
+seat-of-requires c κs =
+    let s = c .before .before .before .before .before .before in
+    sound-stripe _ _ (place-sound _ _ _ (s .pre .0) .stripe)
 
 write-tag-requires : tie.Need-write-tag-requires
 write-tag-requires c κs =
@@ -45,7 +47,7 @@ write-tag-requires c κs =
     let a = s .args in
     let F = formatAt (a .array) in
     let kept = ap length (m .make-data .ensures) ∙ length-sets (a .bytes .now) (F .blockLength * a .member) (othersData F (a .array .members) (a .member) (a .bytes .now)) in
-    (s .pre .0, (omega (arith, kept, block-room (a .array) (a .stripe) (a .member) (s .pre .0) (a .bytes .now) (s .pre .1 .0)), c .before .parity-member .ensures))
+    (s .pre .0, (omega (arith, kept, block-room (a .array) (a .stripe) (a .member) (s .pre .0) (a .bytes .now) (s .pre .1 .0)), c .before .seat-of .ensures))
 
 same-length : tie.Need-same-length
 same-length c = search needs
@@ -77,7 +79,7 @@ rebuild-plain-spec =
     (tie.spec
     plain-guard-requires
     make-data-requires
-    parity-member-requires
+    seat-of-requires
     write-tag-requires
     same-length
     returns)

@@ -19,11 +19,11 @@ use Rattle.stripe.proofs.scrubbing.standings.Statement.{statement}
 use Rattle.stripe.proofs.scrubbing.standings.Tie as tie
 
 abbrev Inv-loop : tie.InvT-loop
-Inv-loop array stripe bytes method members guards parity standing₀ member₀ how member =
+Inv-loop array stripe bytes method members guards seat standing₀ member₀ how member =
     (member ≤ array .members) × (length how ≡ 16) × (take member how ≡ table member (λ m. standingAt array stripe m (blockOf (formatAt array) bytes m)))
 
 abbrev μ-loop : tie.MeasureT-loop
-μ-loop array stripe bytes method members guards parity standing₀ member₀ how member = array .members - member
+μ-loop array stripe bytes method members guards seat standing₀ member₀ how member = array .members - member
 
 block-length-requires : tie.Need-block-length-requires Inv-loop μ-loop
 block-length-requires c κs = search needs
@@ -31,8 +31,10 @@ block-length-requires c κs = search needs
 guards-requires : tie.Need-guards-requires Inv-loop μ-loop
 guards-requires c κs = search needs
 
-parity-member-requires : tie.Need-parity-member-requires Inv-loop μ-loop
-parity-member-requires c κs = search needs
+seat-of-requires : tie.Need-seat-of-requires Inv-loop μ-loop
+seat-of-requires c κs =
+    let s = c .before .before .before in
+    scrub-sound (s .args .array) (s .args .stripe) (length (s .args .bytes .now)) (s .pre) .0
 
 loop-holds : tie.Need-loop-holds Inv-loop μ-loop
 loop-holds c = (omega arith, refl, refl)
@@ -65,7 +67,7 @@ standing-by-requires c κs =
     let p = i .before .before in
     let s = p .before .before .before .before in
     let a = s .args in
-    (member-place (a .array) (a .stripe) (length (a .bytes .now)) (i .before .loop .member) (s .pre) (here i), p .parity-member .ensures)
+    (member-place (a .array) (a .stripe) (length (a .bytes .now)) (i .before .loop .member) (s .pre) (here i), p .seat-of .ensures)
 
 array-write-standing : tie.Need-array-write-standing Inv-loop μ-loop
 array-write-standing c = omega (arith, few (c .before .before))
@@ -104,7 +106,7 @@ standings-spec =
     μ-loop
     block-length-requires
     guards-requires
-    parity-member-requires
+    seat-of-requires
     loop-holds
     stored-requires
     mul-standing-by

@@ -5,6 +5,7 @@ use Prim.Native.Nat.{ℕ, _*_, _<_}
 use native.Mathlib.Omega.{arith}
 use lib.ListN.{length}
 use lib.Seq.{length-sets}
+use Rattle.layout.specs.declared.Seat.{Seat}
 use Rattle.format.specs.Formats.{guardsOf}
 use Rattle.format.proofs.Sizes.{times-next}
 use Rattle.layout.proofs.Ranges.{stripe-sound, sound-place}
@@ -43,11 +44,11 @@ as-long w =
     ap length (w .write-data .ensures)
     ∙ length-written (a .array) (a .stripe) (a .content .now) (stripe-sound (a .array) (a .stripe) (fits d .stripe-good)) (fits d .content-long) (a .bytes .now) (fits d .stripe-long)
 
-below : (p : tie.After-parity-member) → p .parity-member .result < p .before .before .before .before .before .before .before .before .before .before .before .args .array .members
+below : (p : tie.After-seat-of) → p .seat-of .result .parity < p .before .before .before .before .before .before .before .before .before .before .before .args .array .members
 below p =
     let d = p .before .before .before .before .before .before in
     let a = d .before .before .before .before .before .args in
-    rw (p .parity-member .ensures) (parity-below (a .array) (a .stripe) (omega (arith, stripe-sound (a .array) (a .stripe) (fits d .stripe-good) .array .few)))
+    rw (ap (λ (x : Seat). x .parity) (p .seat-of .ensures)) (parity-below (a .array) (a .stripe) (omega (arith, stripe-sound (a .array) (a .stripe) (fits d .stripe-good) .array .few)))
 
 data-length-requires : tie.Need-data-length-requires
 data-length-requires c κs = search needs
@@ -62,8 +63,8 @@ write-data-requires c κs =
     let a = d .before .before .before .before .before .args in
     (fits d .stripe-good, (fits d .content-long, (fits d .stripe-long, g .guards .ensures ∙ ap (λ (k : ℕ). guardsOf (formatAt (a .array)) 16 k (a .content .now)) (d .data-length .ensures))))
 
-parity-member-requires : tie.Need-parity-member-requires
-parity-member-requires c κs = search needs
+seat-of-requires : tie.Need-seat-of-requires
+seat-of-requires c κs = fits (c .before .before .before .before .before) .stripe-good
 
 make-data-requires : tie.Need-make-data-requires
 make-data-requires c κs = (omega (arith, as-long (c .before .before .before .before)), below (c .before))
@@ -97,11 +98,11 @@ write-tag-requires c κs =
     let d = w .before .before .before in
     let a = d .before .before .before .before .before .args in
     let F = formatAt (a .array) in
-    let parity = p .parity-member .result in
+    let parity = p .seat-of .result .parity in
     let written = w .write-data .last .1 .1 .1 .1 .0 in
     let kept = ap length (m .make-data .ensures) ∙ length-sets written (F .blockLength * parity) (othersData F (a .array .members) parity written) in (
       sound-place (a .array) (a .stripe) parity (record { stripe = stripe-sound (a .array) (a .stripe) (fits d .stripe-good); here = below p }),
-      (omega (arith, kept, as-long w, times-next (F .blockLength) parity (a .array .members) (below p)), p .parity-member .ensures),
+      (omega (arith, kept, as-long w, times-next (F .blockLength) parity (a .array .members) (below p)), p .seat-of .ensures),
     )
 
 same-length : tie.Need-same-length
@@ -122,19 +123,19 @@ returns-2 c =
     let a = d .before .before .before .before .before .args in
     let F = formatAt (a .array) in
     let sound = stripe-sound (a .array) (a .stripe) (fits d .stripe-good) in
-    let parity = p .parity-member .result in
+    let parity = p .seat-of .result .parity in
     let written = w .write-data .last .1 .1 .1 .1 .0 in
     let whole = othersData F (a .array .members) parity written in
     let right = parity-guard (a .array) (a .stripe) (a .content .now) sound (fits d .content-long) (a .bytes .now) (fits d .stripe-long)
     parity (d .data-length .result) (e .combined-wide .result) (odd .settled .result) written whole (g .guards .result)
-    (p .parity-member .ensures) (w .write-data .ensures) refl (d .data-length .ensures) (g .guards .ensures) (e .combined-wide .ensures) (odd .settled .ensures) in
+    (ap (λ (x : Seat). x .parity) (p .seat-of .ensures)) (w .write-data .ensures) refl (d .data-length .ensures) (g .guards .ensures) (e .combined-wide .ensures) (odd .settled .ensures) in
     let block = data-then-tag (a .array) (a .stripe) parity (r .wide .result) written (m .make-data .last .1 .1 .1 .0) (b .write-tag .last .1 .1 .1 .1 .1 .0) whole
     (length-othersData F (a .array .members) parity written) (m .make-data .ensures) (b .write-tag .ensures) in
     let none = sym (k .seal-refusal .ensures) ∙ d .before .if1 .left in (
       sym none,
       sealed-by-calls (a .array) (a .stripe) (a .content .now) sound (fits d .content-long) (a .bytes .now) (fits d .stripe-long)
           parity (r .wide .result) written whole (b .write-tag .last .1 .1 .1 .1 .1 .0)
-          (p .parity-member .ensures) (w .write-data .ensures) refl (r .wide .ensures ∙ right) block
+          (ap (λ (x : Seat). x .parity) (p .seat-of .ensures)) (w .write-data .ensures) refl (r .wide .ensures ∙ right) block
           ∙ seal-done (a .array) (a .stripe) (a .content .now) (a .bytes .now) none,
     )
 
@@ -147,7 +148,7 @@ seal-spec =
     data-length-requires
     guards-requires
     write-data-requires
-    parity-member-requires
+    seat-of-requires
     make-data-requires
     sub-combined-wide
     sub-combined-wide-2

@@ -8,6 +8,7 @@ use native.Mathlib.Omega.{arith}
 use borrow.Author.Tests.{eq-eqb, ne-eqb}
 use lib.ListN.{length, getD, take, drop}
 use lib.Seq.{sets, length-sets}
+use Rattle.layout.specs.declared.Seat.{Seat}
 use Rattle.format.specs.Formats.{guard, guardsOf}
 use Rattle.format.proofs.Sizes.{times-next}
 use Rattle.layout.specs.Arrays.{dataMembers}
@@ -33,20 +34,20 @@ returns : tie.Need-returns
 returns c =
     let s = c .before .before .before in
     let a = s .args in
-    rw (eq-eqb (a .member) (parityMember (a .array) (a .stripe)) (c .if1 .taken ∙ s .pre .1 .1 .1 .1))
+    rw (eq-eqb (a .member) (parityMember (a .array) (a .stripe)) (c .if1 .taken ∙ ap (λ (x : Seat). x .parity) (s .pre .1 .1 .1 .1)))
 
 index-beside-requires : tie.Need-index-beside-requires
 index-beside-requires c κs = search needs
 
 -- the member's part is one of the data's, that of its index
 not-parity : (i : tie.After-index-beside) → let a = i .before .before .before .before .args in a .member ≢ parityMember (a .array) (a .stripe)
-not-parity i = λ q. i .before .if1 .left (q ∙ sym (i .before .before .before .before .pre .1 .1 .1 .1))
+not-parity i = λ q. i .before .if1 .left (q ∙ sym (ap (λ (x : Seat). x .parity) (i .before .before .before .before .pre .1 .1 .1 .1)))
 
 right : (i : tie.After-index-beside) → let a = i .before .before .before .before .args in i .index-beside .result ≡ indexAt (a .array) (a .stripe) (a .member)
 right i =
     let s = i .before .before .before .before in
     let a = s .args in
-    i .index-beside .ensures ∙ index-right (a .array) (a .stripe) (a .parity) (a .member) (s .pre .1 .1 .1 .1)
+    i .index-beside .ensures ∙ index-right (a .array) (a .stripe) (a .seat .parity) (a .member) (ap (λ (x : Seat). x .parity) (s .pre .1 .1 .1 .1))
 
 small : (i : tie.After-index-beside) → i .index-beside .result < dataMembers (i .before .before .before .before .args .array)
 small i =

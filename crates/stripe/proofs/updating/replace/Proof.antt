@@ -6,7 +6,9 @@ use native.Mathlib.Omega.{arith}
 use borrow.Author.Tests.{eqb-false}
 use lib.ListN.{length}
 use lib.Seq.{length-sets}
+use Rattle.layout.specs.declared.Seat.{Seat}
 use Rattle.layout.specs.Places.{parityMember, ownerRefusal}
+use Rattle.layout.proofs.Ranges.{place-sound, sound-stripe}
 use Rattle.tag.specs.Blocks.{formatAt}
 use Rattle.tag.specs.Tags.{due, tagBytes}
 use Rattle.stripe.proofs.Pieces.{moved}
@@ -34,8 +36,10 @@ rooms z =
     let a = s .args in
     inside (a .array) (a .stripe) (a .member) (length (a .content .now)) (a .bytes .now) (s .pre .0) (sym (z .before .replace-refusal .ensures) ∙ z .if1 .left)
 
-parity-member-requires : tie.Need-parity-member-requires
-parity-member-requires c κs = search needs
+seat-of-requires : tie.Need-seat-of-requires
+seat-of-requires c κs =
+    let s = c .before .before .before .before .before in
+    sound-stripe _ _ (place-sound _ _ _ (s .pre .0) .stripe)
 
 guard-requires : tie.Need-guard-requires
 guard-requires c κs = search needs
@@ -47,7 +51,7 @@ moved-guard-requires : tie.Need-moved-guard-requires
 moved-guard-requires c κs =
     let p = c .before .before in
     let h = rooms (p .before) in
-    (rw (p .parity-member .ensures) (h .parity), h .own)
+    (rw (ap (λ (x : Seat). x .parity) (p .seat-of .ensures)) (h .parity), h .own)
 
 move-parity-requires : tie.Need-move-parity-requires
 move-parity-requires c κs =
@@ -55,7 +59,7 @@ move-parity-requires c κs =
     let s = p .before .before .before .before .before .before in
     let a = s .args in
     let h = rooms (p .before) in
-    (rw (p .parity-member .ensures) (h .parity), (h .own, (h .size, λ e. eqb-false (a .member) (parityMember (a .array) (a .stripe)) (s .pre .1) (e ∙ p .parity-member .ensures))))
+    (rw (ap (λ (x : Seat). x .parity) (p .seat-of .ensures)) (h .parity), (h .own, (h .size, λ e. eqb-false (a .member) (parityMember (a .array) (a .stripe)) (s .pre .1) (e ∙ ap (λ (x : Seat). x .parity) (p .seat-of .ensures)))))
 
 -- the stripe is as long as it was
 as-long : (v : tie.After-move-parity) → length (v .move-parity .last .1 .1 .1 .1 .0) ≡ length (v .before .before .before .before .before .before .before .before .before .before .before .args .bytes .now)
@@ -63,7 +67,7 @@ as-long v =
     let p = v .before .before .before .before .before in
     let a = p .before .before .before .before .before .before .args in
     let F = formatAt (a .array) in
-    ap length (v .move-parity .ensures) ∙ length-sets (a .bytes .now) (F .blockLength * p .parity-member .result) (moved F (p .parity-member .result) (a .member) (a .bytes .now) (a .content .now))
+    ap length (v .move-parity .ensures) ∙ length-sets (a .bytes .now) (F .blockLength * p .seat-of .result .parity) (moved F (p .seat-of .result .parity) (a .member) (a .bytes .now) (a .content .now))
 
 write-tag-requires : tie.Need-write-tag-requires
 write-tag-requires c κs =
@@ -72,9 +76,9 @@ write-tag-requires c κs =
     let s = p .before .before .before .before .before .before in
     let a = s .args in
     let F = formatAt (a .array) in
-    let room : F .blockLength * p .parity-member .result + F .blockLength ≤ length (a .bytes .now) = rw (p .parity-member .ensures) (rooms (p .before) .parity) in
+    let room : F .blockLength * p .seat-of .result .parity + F .blockLength ≤ length (a .bytes .now) = rw (ap (λ (x : Seat). x .parity) (p .seat-of .ensures)) (rooms (p .before) .parity) in
     let kept = as-long v in
-    (ap (ownerRefusal (a .array) (a .stripe)) (p .parity-member .ensures) ∙ parity-sound (a .array) (a .stripe) (a .member) (s .pre .0), (omega (arith, kept, room), p .parity-member .ensures))
+    (ap (ownerRefusal (a .array) (a .stripe)) (ap (λ (x : Seat). x .parity) (p .seat-of .ensures)) ∙ parity-sound (a .array) (a .stripe) (a .member) (s .pre .0), (omega (arith, kept, room), p .seat-of .ensures))
 
 write-block-requires : tie.Need-write-block-requires
 write-block-requires c κs =
@@ -85,10 +89,10 @@ write-block-requires c κs =
     let h = rooms (p .before) in
     let a = s .args in
     let F = formatAt (a .array) in
-    let parity = p .parity-member .result in
+    let parity = p .seat-of .result .parity in
     let tag = tagBytes F (due (a .array) (a .stripe) parity (v .before .before .moved-guard .result)) in
     let kept = ap length (w .write-tag .ensures) ∙ length-sets (v .move-parity .last .1 .1 .1 .1 .0) (F .blockLength * parity + F .dataLength) tag ∙ as-long v in
-    (s .pre .0, (h .size, (omega (arith, kept, h .own), p .parity-member .ensures)))
+    (s .pre .0, (h .size, (omega (arith, kept, h .own), p .seat-of .ensures)))
 
 same-length-2 : tie.Need-same-length-2
 same-length-2 c = search needs
@@ -105,9 +109,9 @@ returns-2 c =
     let r = z .before in
     let s = r .before .before .before .before in
     let a = s .args in
-    replace-done (a .array) (a .stripe) (a .member) (a .content .now) (a .bytes .now) (r .replace-refusal .result) (p .parity-member .result) (g .guard .result) (k .moved-guard .result) _
+    replace-done (a .array) (a .stripe) (a .member) (a .content .now) (a .bytes .now) (r .replace-refusal .result) (p .seat-of .result .parity) (g .guard .result) (k .moved-guard .result) _
     (v .move-parity .last .1 .1 .1 .1 .0) (w .write-tag .last .1 .1 .1 .1 .1 .0) (u .write-block .last .1 .1 .1 .1 .1 .1 .0) (s .pre .0) (r .replace-refusal .ensures) (z .if1 .left)
-    (eqb-false (a .member) (parityMember (a .array) (a .stripe)) (s .pre .1)) (p .parity-member .ensures) refl (g .guard .ensures) (k .moved-guard .ensures)
+    (eqb-false (a .member) (parityMember (a .array) (a .stripe)) (s .pre .1)) (ap (λ (x : Seat). x .parity) (p .seat-of .ensures)) refl (g .guard .ensures) (k .moved-guard .ensures)
     (v .move-parity .ensures) (w .write-tag .ensures) (u .write-block .ensures)
 
 pub replace-spec : {M : Type 1} → statement M
@@ -117,7 +121,7 @@ replace-spec =
     replace-refusal-requires
     same-length
     returns
-    parity-member-requires
+    seat-of-requires
     guard-requires
     cast-data-guard
     moved-guard-requires
