@@ -37,6 +37,10 @@
  *   1, 2      512    520       2             2           4
  *   3       4,096  4,112       4             4           8
  *
+ * The four bytes of a reference tag hold the low thirty-two bits of the number. Of an array of more than 4,294,967,296
+ * blocks, methods 1 and 2 therefore cannot tell two blocks of data, or two of parity, whose numbers differ by a multiple
+ * of that: one that lies in the other's place is good there. Method 3 tells them all.
+ *
  * In method 3 the last two bytes of the application tag are spare and due as 0: a block with another byte there has a
  * wrong application tag. A stripe in memory is its n blocks in the order of the members, n x B bytes.
  *
@@ -85,7 +89,7 @@
  * and gives 0 in all other fields; a refused piece of a scan gives the state as it came.
  *
  *    1  members, or the number of guards, is not 3 to 16
- *    2  stripes is not 1 to 268,435,456
+ *    2  stripes is not 1 to 68,719,476,736
  *   12  method is not 1 to 3; tested next after 2
  *   13  row is not one of 1, 2, 4 .. 128, or does not divide stripes; tested next after 12
  *    3  the array has no such stripe, or no such block

@@ -56,7 +56,7 @@ static const char *in_words(uint32_t refusal)
     static const char *const words[] = {
         [0] = "done",
         [1] = "the members are not 3 to 16",
-        [2] = "the stripes are not 1 to 268435456",
+        [2] = "the stripes are not 1 to 68719476736",
         [3] = "the array has no such stripe or block",
         [4] = "the state of the scan is not fit",
         [5] = "the array has no such member",

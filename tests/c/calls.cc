@@ -195,6 +195,13 @@ static void places()
     DUE(place_of({16, 268435456, 7, 4, 3}, 4026531840).refusal, 12);
     DUE(place_of({16, 0, 7, 4, 3}, 4026531840).refusal, 2);
 
+    DUE(place_of({16, 68719476737, 7, 4, 3}, 0).refusal, 2);
+    const Array most = {16, 68719476736, 7, 1, 1};
+    DUE(place_of(most, 1030792151039).stripe, 68719476735);
+    DUE(place_of(most, 1030792151039).member, 14);
+    DUE(place_of(most, 1030792151040).refusal, 3);
+    DUE(owner_at(most, 68719476735, 14).block, 1030792151039);
+
     const Array five = {5, 65537, 7, 2, 1};
     struct irumbolai_owner owner = owner_at(five, 65536, 1);
     DUE(owner.refusal, 0);
@@ -239,6 +246,7 @@ static void rows()
     DUE(place_of(five, 32).refusal, 3);
     DUE(owner_at(five, 8, 0).refusal, 3);
     due_place({16, 268435456, 7, 3, 128}, 4026531839, 268435455, 14);
+    due_place({16, 68719476736, 7, 3, 128}, 1030792151039, 68719476735, 14);
 
     for (uint8_t row : {0, 3, 5, 16, 128, 255}) {
         const Array none = {5, 8, 7, 1, row};
@@ -461,6 +469,7 @@ static void large_checks()
     DUE(checked.kind, 1);
     due_field(checked.guard, 0x79C2317E, 0x6A92C28A, 0);
     due_field(check({16, 268435456, 9, 3, 1}, 268435455, 14, block).reference, 1, 4026531839, 0);
+    due_field(check({16, 68719476736, 9, 3, 1}, 68719476735, 14, block).reference, 1, 1030792151039, 0);
     block.pop_back();
     due_untold(check(large, 0, 2, block), 6, 0);
     due_untold(check(large, 0, 2, Bytes(520)), 6, 0);

@@ -5,7 +5,7 @@ use model::checksum::{START, Sum, checksum};
 use model::crc32c::{self, crc32c};
 use model::guard::{go_on, guard};
 use model::join;
-use model::layout::{Array, Owner, Place};
+use model::layout::{Array, MOST_STRIPES, Owner, Place};
 use model::report;
 use model::scan::{self, History, Scan};
 use model::stripe::{self, Checked, Field, Fields, Fits, Source, Verdict, guard_of, stored_guards};
@@ -320,8 +320,8 @@ impl Figures {
         )?;
         self.due(
             "large tag of the last block",
-            &stripe::due(&large(16, 268_435_456), 268_435_455, 14, 0)[8..],
-            &[0, 0, 0, 0, 0xEF, 0xFF, 0xFF, 0xFF],
+            &stripe::due(&large(16, MOST_STRIPES), MOST_STRIPES - 1, 14, 0)[8..],
+            &[0, 0, 0, 0xEF, 0xFF, 0xFF, 0xFF, 0xFF],
         )
     }
 
@@ -438,7 +438,7 @@ impl Figures {
 
     fn places(&mut self) -> Result<(), String> {
         let at = |stripe, member| Ok(Place { stripe, member });
-        let five = array(5, 268_435_456);
+        let five = array(5, MOST_STRIPES);
         for (block, due) in [
             (0, at(0, 1)),
             (3, at(0, 4)),
@@ -446,9 +446,25 @@ impl Figures {
             (5, at(1, 2)),
             (65_535, at(16_383, 4)),
             (65_536, at(16_384, 0)),
+            (4_294_967_295, at(1_073_741_823, 4)),
+            (4_294_967_296, at(1_073_741_824, 0)),
         ] {
             self.due("place, 5 members", five.place(block), due)?;
         }
+        for (stripe, member, due) in [
+            (1_073_741_823, 4, [0xFF; 4]),
+            (1_073_741_824, 0, [0; 4]),
+            (1_073_741_824, 4, [0; 4]),
+            (1_073_741_825, 1, [0, 0, 0, 4]),
+        ] {
+            let tag = stripe::due(&five, stripe, member, 0);
+            self.due("tag beside block 4,294,967,296", &tag[4..], &due)?;
+        }
+        self.due(
+            "the same, large",
+            &stripe::due(&large(5, MOST_STRIPES), 1_073_741_824, 0, 0)[8..],
+            &[0, 0, 0, 1, 0, 0, 0, 0],
+        )?;
         self.due(
             "tag of block 65,536",
             &stripe::due(&five, 16_384, 0, 0)[4..],
@@ -470,6 +486,18 @@ impl Figures {
             at(268_435_455, 14),
         )?;
         self.due("block past the last", largest.place(4_026_531_840), Err(3))?;
+        let largest = array(16, MOST_STRIPES);
+        self.due(
+            "last block of all",
+            largest.place(1_030_792_151_039),
+            at(68_719_476_735, 14),
+        )?;
+        self.due("past it", largest.place(1_030_792_151_040), Err(3))?;
+        self.due(
+            "a stripe more",
+            array(16, MOST_STRIPES + 1).place(0),
+            Err(2),
+        )?;
         self.due("2 members", array(2, 1).place(0), Err(1))?;
         self.due("17 members", array(17, 1).place(0), Err(1))
     }
@@ -512,12 +540,13 @@ impl Figures {
             &stripe::due(&five, 7, 1, 0)[2..],
             &[0x80, 7, 0, 0, 0, 19],
         )?;
-        let largest = in_rows(16, 268_435_456, 128);
+        let largest = in_rows(16, MOST_STRIPES, 128);
         for (block, due) in [
             (1_920, at(128, 0)),
-            (4_026_531_838, at(268_435_454, 14)),
             (4_026_531_839, at(268_435_455, 14)),
-            (4_026_531_840, Err(3)),
+            (1_030_792_151_038, at(68_719_476_734, 14)),
+            (1_030_792_151_039, at(68_719_476_735, 14)),
+            (1_030_792_151_040, Err(3)),
         ] {
             self.due("place, in rows of 128", largest.place(block), due)?;
         }

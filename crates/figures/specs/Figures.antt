@@ -6,8 +6,10 @@ use Prim.Native.Nat.{ℕ}
 use Rattle.xor.specs.Xors.{xors, addAll, combination}
 use Rattle.crc.specs.Crc.{bits, bitsOf, bitStep, feed}
 use Rattle.crc.specs.Guard.{run, guard}
-use Rattle.layout.specs.Arrays.{arrayOf, arrayRefusal, blockRefusal}
-use Rattle.layout.specs.Places.{parityMember, lowestBlock, blockAt, stripeOf, indexOf, memberAt, indexAt, referenceOf, blockNamed, placeNumbers}
+use Rattle.format.specs.Formats.{referenceOf}
+use Rattle.format.specs.Methods.{formatOf}
+use Rattle.layout.specs.Arrays.{arrayOf, mostStripes, arrayRefusal, blockRefusal}
+use Rattle.layout.specs.Places.{parityMember, lowestBlock, blockAt, stripeOf, indexOf, memberAt, indexAt, blockNamed, placeNumbers}
 use Rattle.layout.specs.declared.Array.{Array}
 use Rattle.tag.specs.Numbers.{bytesOf}
 use Rattle.tag.specs.Tags.{referenceDue}
@@ -18,7 +20,11 @@ done stripe member = 1 ∷ 0 ∷ stripe ∷ member ∷ []
 
 -- five members, as many stripes as an array can have
 abbrev pub five : Array
-five = arrayOf 5 268435456 0 1 1
+five = arrayOf 5 mostStripes 0 1 1
+
+-- and of large blocks
+abbrev pub largeFive : Array
+largeFive = arrayOf 5 mostStripes 0 3 1
 
 -- the same in eight stripes, in rows of four
 abbrev pub fours : Array
@@ -39,6 +45,11 @@ pub record Bench : Type 0 where
   pub place-below-sixteen-bits : placeNumbers five 65535 ≡ done 16383 4
   pub place-above-sixteen-bits : placeNumbers five 65536 ≡ done 16384 0
   pub reference-above-sixteen-bits : bytesOf 4 (referenceDue five 16384 0) ≡ 0x00 ∷ 0x01 ∷ 0x00 ∷ 0x00 ∷ []
+  pub place-below-thirty-two-bits : placeNumbers five 4294967295 ≡ done 1073741823 4
+  pub place-above-thirty-two-bits : placeNumbers five 4294967296 ≡ done 1073741824 0
+  pub reference-below-thirty-two-bits : bytesOf 4 (referenceDue five 1073741823 4) ≡ 0xFF ∷ 0xFF ∷ 0xFF ∷ 0xFF ∷ []
+  pub reference-above-thirty-two-bits : bytesOf 4 (referenceDue five 1073741824 0) ≡ 0x00 ∷ 0x00 ∷ 0x00 ∷ 0x00 ∷ []
+  pub large-reference-above : bytesOf 8 (referenceDue largeFive 1073741824 0) ≡ 0x00 ∷ 0x00 ∷ 0x00 ∷ 0x01 ∷ 0x00 ∷ 0x00 ∷ 0x00 ∷ 0x00 ∷ []
   pub place-in-row : placeNumbers fours 3 ≡ done 3 1
   pub place-next-member : placeNumbers fours 4 ≡ done 0 2
   pub place-next-row : placeNumbers fours 16 ≡ done 4 0
@@ -46,7 +57,7 @@ pub record Bench : Type 0 where
   pub combined : combination 1 ((0x9 ∷ []) ∷ (0x4 ∷ []) ∷ (0x8 ∷ []) ∷ (0xC ∷ []) ∷ []) ≡ 0x9 ∷ []
 
 pub bench : Bench
-unfolding guard run feed bitsOf bits bitStep addAll xors placeNumbers blockRefusal arrayRefusal stripeOf indexOf memberAt parityMember referenceDue referenceOf blockNamed lowestBlock blockAt indexAt bytesOf
+unfolding guard run feed bitsOf bits bitStep addAll xors placeNumbers blockRefusal arrayRefusal stripeOf indexOf memberAt parityMember referenceDue formatOf referenceOf blockNamed lowestBlock blockAt indexAt bytesOf
 bench =
     record {
       guard-none = refl;
@@ -63,6 +74,11 @@ bench =
       place-below-sixteen-bits = refl;
       place-above-sixteen-bits = refl;
       reference-above-sixteen-bits = refl;
+      place-below-thirty-two-bits = refl;
+      place-above-thirty-two-bits = refl;
+      reference-below-thirty-two-bits = refl;
+      reference-above-thirty-two-bits = refl;
+      large-reference-above = refl;
       place-in-row = refl;
       place-next-member = refl;
       place-next-row = refl;

@@ -12,6 +12,7 @@ fn main() {
     guards::published();
     guards::bench();
     places::bench();
+    places::far();
     places::rows();
     stripes::sealed(b"\nsealed stripe, tag of        is\n", 1);
     stripes::torn();

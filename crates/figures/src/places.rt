@@ -5,8 +5,10 @@ use layout::Owned;
 use layout::Placed;
 use libc::STDOUT_FILENO;
 
-// The most stripes that an array can have.
-const MOST: u64 = 268435456;
+// Stripes of sixteen members whose blocks can be told by thirty-two bits, and the most that an array can have.
+const MANY: u64 = 268435456;
+
+const MOST: u64 = 68719476736;
 
 pub fn bench() {
     io::write_all(STDOUT_FILENO, b"\nplace of                     is\n");
@@ -17,10 +19,29 @@ pub fn bench() {
     place(b"n 5, L 65535                 ", array(5), 65535);
     place(b"n 5, L 65536                 ", array(5), 65536);
     owner(b"n 5, stripe 65536, member 1  ", array(5), 65536, 1);
-    place(b"n 16, L 4026531839           ", array(16), 4026531839);
-    place(b"n 16, L 4026531840           ", array(16), 4026531840);
+    place(b"n 5, L 4294967295            ", array(5), 4294967295);
+    place(b"n 5, L 4294967296            ", array(5), 4294967296);
+    place(b"n 16, L 1030792151039        ", array(16), 1030792151039);
+    place(b"n 16, L 1030792151040        ", array(16), 1030792151040);
     place(b"n 2, L 0                     ", array(2), 0);
     place(b"n 17, L 0                    ", array(17), 0);
+    let many = layout::array_of(16, MANY, 0, 1, 1);
+    io::write_all(STDOUT_FILENO, b"\nn 16, S 268435456, place of  is\n");
+    place(b"L 4026531839                 ", many, 4026531839);
+    place(b"L 4026531840                 ", many, 4026531840);
+}
+
+// On both sides of block 4,294,967,296: the reference tag starts anew there, but not that of a large block.
+pub fn far() {
+    io::write_all(STDOUT_FILENO, b"\nn 5, tag of                  is\n");
+    owner(b"stripe 1073741823, member 4  ", array(5), 1073741823, 4);
+    owner(b"stripe 1073741824, member 0  ", array(5), 1073741824, 0);
+    owner(
+        b"the same by method 3         ",
+        layout::array_of(5, MOST, 0, 3, 1),
+        1073741824,
+        0,
+    );
 }
 
 fn array(members: usize) -> Array {
@@ -60,14 +81,16 @@ fn place(given: &[u8], array: Array, block: u64) {
     io::write_all(STDOUT_FILENO, b"\n");
 }
 
-// One line: what is given, and the block or the parity there with its reference, or the refusal.
+// One line: what is given, and whether data or the parity lie there, with the reference in their tag, or the refusal.
 fn owner(given: &[u8], array: Array, stripe: u64, member: usize) {
     io::write_all(STDOUT_FILENO, given);
     let owned = layout::owner(array, stripe, member);
+    let due = tag::due_to(array, owned, 0, 0);
+    let reference = due.reference;
     match owned {
         Owned::Refused(number) => named(b"refusal ", number as u64),
-        Owned::Parity { lowest } => named(b"parity, reference ", lowest),
-        Owned::Data { block } => named(b"data, reference ", block),
+        Owned::Parity { lowest: _ } => named(b"parity, reference ", reference),
+        Owned::Data { block: _ } => named(b"data, reference ", reference),
     }
     io::write_all(STDOUT_FILENO, b"\n");
 }

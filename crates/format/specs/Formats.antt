@@ -77,6 +77,10 @@ module _ (F : Format) where
   unfoldable pub settled : ℕ → ℕ
   settled members = cond (F .carries) 0 (spare members)
 
+  -- the reference tag of a block number: as many of its low bytes as the field has
+  unfoldable pub referenceOf : ℕ → ℕ
+  referenceOf block = block % 256 ^ (2 * F .quarter)
+
   -- a register as a state keeps it: as many bits as a guard has, and the byte that waits above them
   abbrev pub valueIn : ℕ → ℕ
   valueIn r = r % 256 ^ F .quarter

@@ -12,7 +12,7 @@ pub use positions::part_at;
 pub use positions::tag_place;
 ghost use mathlib.Core.Path.{_≡_};
 ghost use Prim.Native.Nat.{_*_, _/_, _%_};
-ghost use Rattle.format.specs.Formats.{guard, settled, guardsOf};
+ghost use Rattle.format.specs.Formats.{guard, settled, referenceOf, guardsOf};
 ghost use Rattle.format.specs.Methods.{formatOf};
 use packing::packed;
 use packing::unpacked;
@@ -89,6 +89,16 @@ pub fn unscaled(method: u8, application: u64) -> u64
         return application / 65536;
     }
     application
+}
+
+// The reference tag of a block number: all of it in a large block's tag, else its low thirty-two bits.
+pub fn reference(method: u8, block: u64) -> u64
+    ensures { λ r. ⌜ r ≡ referenceOf (formatOf method) block ⌝ }
+{
+    if method == LARGE {
+        return block;
+    }
+    block % 4294967296
 }
 
 // Whether the parity's tag holds what the data members' guards combine to; else it holds the guard of its own data.

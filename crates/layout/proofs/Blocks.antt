@@ -87,23 +87,23 @@ module _ (a : Array) where
       let back : (s : ℕ) → stripeOf a (lowestBlock a s) ≡ s = λ s. rw (lowest-first s) at (stripe-of-block s 0 (h .row-some) d) in
       sym (back stripe) ∙ ap (stripeOf a) e ∙ back next
 
-  pub block-count-small : Sound a → blockCount a ≤ 4026531840
+  pub block-count-small : Sound a → blockCount a ≤ 1030792151040
   block-count-small h = let d : dataMembers a ≤ 15 = omega arith in mul-le-mul (h .most) d
 
-  -- every block number fits a reference tag
-  pub block-small : (block : ℕ) → SoundBlock a block → block < 2 ^ 32
+  -- a block number has forty bits
+  pub block-small : (block : ℕ) → SoundBlock a block → block < 2 ^ 40
   block-small block h = omega (arith, block-count-small (h .array))
 
   -- ---- what the code computes fits
 
-  pub lowest-fits : (stripe : ℕ) → SoundStripe a stripe → stripe / a .row * dataMembers a * a .row + stripe % a .row < 2 ^ 32
+  pub lowest-fits : (stripe : ℕ) → SoundStripe a stripe → stripe / a .row * dataMembers a * a .row + stripe % a .row < 2 ^ 40
   unfolding lowestBlock
   lowest-fits stripe h = block-small (lowestBlock a stripe) (lowest-sound stripe h)
 
-  pub rows-fit : (stripe : ℕ) → SoundStripe a stripe → stripe / a .row * dataMembers a < 2 ^ 32
+  pub rows-fit : (stripe : ℕ) → SoundStripe a stripe → stripe / a .row * dataMembers a < 2 ^ 40
   rows-fit stripe h = omega (arith, lowest-fits stripe h, le-mul-of-pos-right (stripe / a .row * dataMembers a) (h .array .row-some))
 
-  pub stripe-fits : (block : ℕ) → SoundBlock a block → block / a .row / dataMembers a * a .row + block % a .row < 2 ^ 32
+  pub stripe-fits : (block : ℕ) → SoundBlock a block → block / a .row / dataMembers a * a .row + block % a .row < 2 ^ 40
   unfolding stripeOf
   stripe-fits block h = omega (arith, stripe-in-array block h, h .array .most)
 

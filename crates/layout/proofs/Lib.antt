@@ -5,6 +5,6 @@ pub mod Injective
 pub mod Members
 pub mod Blocks
 pub mod Numbers
-pub mod References
+pub mod Volumes
 pub mod Bijection
 pub mod Figures

@@ -8,7 +8,7 @@ use native.Mathlib.Omega.{arith}
 use borrow.Author.Tests.{leb-true, le-leb, eqb-true, eq-eqb}
 use lib.Dec.{leb}
 use Rattle.layout.specs.Answers.{refuse, orPast}
-use Rattle.layout.specs.Arrays.{within, membersFit, stripesFit, methodFit, divides, rowFit, arrayRefusal, blockCount, stripeRefusal, blockRefusal}
+use Rattle.layout.specs.Arrays.{within, mostStripes, membersFit, stripesFit, methodFit, divides, rowFit, arrayRefusal, blockCount, stripeRefusal, blockRefusal}
 use Rattle.layout.specs.Places.{ownerRefusal}
 use Rattle.layout.specs.Ranges.{Sound, SoundStripe, SoundBlock, SoundPlace}
 use Rattle.layout.specs.declared.Array.{Array}
@@ -37,7 +37,7 @@ array-sound a e =
     let j = refuse-none (methodFit a) 11 (refuse (not (rowFit a)) 13 0) (i .1) in
     let r = both (divides (a .row) 128) (divides (a .row) (a .stripes)) (refuse-none (rowFit a) 12 0 (j .1) .0) in
     let m = within-range 3 16 (a .members) (h .0) in
-    let s = within-range 1 268435456 (a .stripes) (i .0) in
+    let s = within-range 1 mostStripes (a .stripes) (i .0) in
     let k = within-range 1 3 (a .method) (j .0) in
     let p = eqb-true (128 % a .row) 0 (r .0) in
     record {
@@ -58,7 +58,7 @@ unfolding arrayRefusal
 sound-array a h =
     rw (
       range-within 3 16 (a .members) (h .few) (h .many),
-      range-within 1 268435456 (a .stripes) (h .some) (h .most),
+      range-within 1 mostStripes (a .stripes) (h .some) (h .most),
       range-within 1 3 (a .method) (h .method-least) (h .method-most),
       eq-eqb (128 % a .row) 0 (h .row-power),
       eq-eqb (a .stripes % a .row) 0 (h .row-whole),

@@ -21,8 +21,12 @@ within low high x = leb low x && leb x high
 abbrev pub membersFit : Array → Bool
 membersFit a = within 3 16 (a .members)
 
+-- the largest S: two to the thirty-sixth
+abbrev pub mostStripes : ℕ
+mostStripes = 68719476736
+
 abbrev pub stripesFit : Array → Bool
-stripesFit a = within 1 268435456 (a .stripes)
+stripesFit a = within 1 mostStripes (a .stripes)
 
 -- the guard method: 1 the CRC, 2 the checksum, 3 large blocks with CRC-32C
 abbrev pub methodFit : Array → Bool

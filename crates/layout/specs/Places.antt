@@ -52,10 +52,6 @@ indexAt a stripe member = indexBeside (parityMember a stripe) member
 abbrev pub memberOf : Array → ℕ → ℕ
 memberOf a block = memberAt a (stripeOf a block) (indexOf a block)
 
--- the reference tag of a block number
-unfoldable pub referenceOf : ℕ → ℕ
-referenceOf block = block
-
 -- ---- place, in numbers: the stripe and the member
 
 abbrev pub placedNumbers : Placed → List ℕ

@@ -1,7 +1,7 @@
 -- The numbers that are in range: what a caller must hand in so that nothing is refused. Assumes nothing.
 use mathlib.Core.Path.{_≡_}
 use Prim.Native.Nat.{ℕ, _%_, _≤_, _<_}
-use Rattle.layout.specs.Arrays.{blockCount}
+use Rattle.layout.specs.Arrays.{mostStripes, blockCount}
 use Rattle.layout.specs.declared.Array.{Array}
 
 -- the array's own numbers are in range
@@ -9,7 +9,7 @@ pub record Sound (a : Array) : Type 0 where
   pub few : 3 ≤ a .members
   pub many : a .members ≤ 16
   pub some : 1 ≤ a .stripes
-  pub most : a .stripes ≤ 268435456
+  pub most : a .stripes ≤ mostStripes
   pub method-least : 1 ≤ a .method
   pub method-most : a .method ≤ 3
   pub row-some : 1 ≤ a .row

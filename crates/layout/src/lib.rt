@@ -13,7 +13,6 @@ ghost use Rattle.layout.specs.Places.{
   seatOf,
   memberAt,
   indexBeside,
-  referenceOf,
   placedNumbers,
   placeNumbers,
   ownedNumbers,
@@ -73,7 +72,7 @@ const FEWEST_MEMBERS: u64 = 3;
 
 const MOST_MEMBERS: u64 = 16;
 
-const MOST_STRIPES: u64 = 268435456;
+const MOST_STRIPES: u64 = 68719476736;
 
 const MOST_METHODS: u64 = 3;
 
@@ -290,11 +289,4 @@ pub fn owner(array: Array, stripe: u64, member: usize) -> Owned
         return Owned::Refused(refusal);
     }
     owner_beside(array, stripe, seat_of(array, stripe), member)
-}
-
-// The reference tag of a block number.
-pub fn reference(block: u64) -> u64
-    ensures { λ r. ⌜ r ≡ referenceOf block ⌝ }
-{
-    block
 }

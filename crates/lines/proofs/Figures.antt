@@ -83,12 +83,12 @@ pub length-exchanged-refused : headerRefusal (0x07 ∷ 0x00 ∷ 0x01 ∷ 0x03 �
 unfolding headerRefusal formOf formSize arrayRefusal arrayIn later numberOf
 length-exchanged-refused = refl
 
--- version 4; and at its third byte
-pub version-four-refused : headerRefusal (0x00 ∷ 0x07 ∷ 0x04 ∷ 0x03 ∷ 0x05 ∷ 0x01 ∷ 0x02 ∷ 0x03 ∷ 0x04 ∷ []) ≡ 10
+-- version 5; and at its third byte
+pub version-five-refused : headerRefusal (0x00 ∷ 0x07 ∷ 0x05 ∷ 0x03 ∷ 0x05 ∷ 0x01 ∷ 0x02 ∷ 0x03 ∷ 0x04 ∷ []) ≡ 10
 unfolding headerRefusal formOf formSize arrayRefusal arrayIn later numberOf
-version-four-refused = refl
+version-five-refused = refl
 
-pub three-bytes-refused : headerRefusal (0x00 ∷ 0x07 ∷ 0x04 ∷ []) ≡ 10
+pub three-bytes-refused : headerRefusal (0x00 ∷ 0x07 ∷ 0x05 ∷ []) ≡ 10
 unfolding headerRefusal formOf formSize arrayRefusal arrayIn later numberOf
 three-bytes-refused = refl
 
@@ -175,3 +175,35 @@ pub third-short-refused : (headerRefusal (0x00 ∷ 0x09 ∷ 0x03 ∷ 0x03 ∷ 0x
     × (headerRefusal (0x00 ∷ 0x08 ∷ 0x03 ∷ 0x03 ∷ 0x05 ∷ 0x01 ∷ 0x02 ∷ 0x04 ∷ 0x40 ∷ 0x03 ∷ 0x40 ∷ []) ≡ 10)
 unfolding headerRefusal formOf formSize arrayRefusal arrayIn later numberOf
 third-short-refused = (refl, refl)
+
+-- the most that four bytes can say is an array now
+pub four-bytes-full : headerRefusal (0x00 ∷ 0x07 ∷ 0x01 ∷ 0x03 ∷ 0x05 ∷ 0xFF ∷ 0xFF ∷ 0xFF ∷ 0xFF ∷ []) ≡ 0
+unfolding headerRefusal formOf formSize arrayRefusal arrayIn later numberOf
+four-bytes-full = refl
+
+-- ---- headers of version 4
+
+-- length 13, 0000000902030440h stripes, method 3 and rows of 64
+abbrev fourthHeader : List ℕ
+fourthHeader = 0x00 ∷ 0x0D ∷ 0x04 ∷ 0x03 ∷ 0x05 ∷ 0x00 ∷ 0x00 ∷ 0x00 ∷ 0x09 ∷ 0x02 ∷ 0x03 ∷ 0x04 ∷ 0x40 ∷ 0x03 ∷ 0x40 ∷ []
+
+pub fourth-header-reads : arrayIn fourthHeader ≡ arrayOf 3 0x0902030440 5 3 64
+unfolding arrayIn later formOf numberOf
+fourth-header-reads = refl
+
+pub fourth-header-accepted : headerRefusal fourthHeader ≡ 0
+unfolding headerRefusal formOf formSize arrayRefusal arrayIn later numberOf
+fourth-header-accepted = refl
+
+-- the largest array; one stripe more; the highest byte of eight counted in
+pub most-stripes : (headerRefusal (0x00 ∷ 0x0D ∷ 0x04 ∷ 0x10 ∷ 0x05 ∷ 0x00 ∷ 0x00 ∷ 0x00 ∷ 0x10 ∷ 0x00 ∷ 0x00 ∷ 0x00 ∷ 0x00 ∷ 0x01 ∷ 0x80 ∷ []) ≡ 0)
+    × (headerRefusal (0x00 ∷ 0x0D ∷ 0x04 ∷ 0x10 ∷ 0x05 ∷ 0x00 ∷ 0x00 ∷ 0x00 ∷ 0x10 ∷ 0x00 ∷ 0x00 ∷ 0x00 ∷ 0x01 ∷ 0x01 ∷ 0x01 ∷ []) ≡ 2)
+    × (headerRefusal (0x00 ∷ 0x0D ∷ 0x04 ∷ 0x10 ∷ 0x05 ∷ 0x01 ∷ 0x00 ∷ 0x00 ∷ 0x00 ∷ 0x00 ∷ 0x00 ∷ 0x00 ∷ 0x01 ∷ 0x01 ∷ 0x01 ∷ []) ≡ 2)
+unfolding headerRefusal formOf formSize arrayRefusal arrayIn later numberOf
+most-stripes = (refl, refl, refl)
+
+-- a byte short; the third version's length
+pub fourth-short-refused : (headerRefusal (0x00 ∷ 0x0D ∷ 0x04 ∷ 0x03 ∷ 0x05 ∷ 0x00 ∷ 0x00 ∷ 0x00 ∷ 0x09 ∷ 0x02 ∷ 0x03 ∷ 0x04 ∷ 0x40 ∷ 0x03 ∷ []) ≡ 10)
+    × (headerRefusal (0x00 ∷ 0x09 ∷ 0x04 ∷ 0x03 ∷ 0x05 ∷ 0x00 ∷ 0x00 ∷ 0x00 ∷ 0x09 ∷ 0x02 ∷ 0x03 ∷ 0x04 ∷ 0x40 ∷ 0x03 ∷ 0x40 ∷ []) ≡ 10)
+unfolding headerRefusal formOf formSize arrayRefusal arrayIn later numberOf
+fourth-short-refused = (refl, refl)

@@ -25,21 +25,22 @@ use Rattle.lines.specs.Headers.{headerRoom, form, formOf, headerForm, kn
 -- ---- forms
 
 -- what holds of every row, and of no form, holds of every version's
-by-row : (P : Form → Type 0) → P (form 4 0) → P (form 4 1) → P (form 4 2) → P (form 0 0) → (version : ℕ) → P (formOf version)
+by-row : (P : Form → Type 0) → P (form 4 0) → P (form 4 1) → P (form 4 2) → P (form 8 2) → P (form 0 0) → (version : ℕ) → P (formOf version)
 unfolding formOf
-by-row P first second third none version = choose (eqb version 1) (eqb version 2) (eqb version 3)
+by-row P first second third fourth none version = choose (eqb version 1) (eqb version 2) (eqb version 3) (eqb version 4)
   where
-    choose : (t u v : Bool) → P (cond t (form 4 0) (cond u (form 4 1) (cond v (form 4 2) (form 0 0))))
-    choose true u v = first
-    choose false true v = second
-    choose false false true = third
-    choose false false false = none
+    choose : (t u v w : Bool) → P (cond t (form 4 0) (cond u (form 4 1) (cond v (form 4 2) (cond w (form 8 2) (form 0 0)))))
+    choose true u v w = first
+    choose false true v w = second
+    choose false false true w = third
+    choose false false false true = fourth
+    choose false false false false = none
 
 pub wide-most : (version : ℕ) → formOf version .wide ≤ 8
-wide-most = by-row (λ f. f .wide ≤ 8) (lit≤ tt) (lit≤ tt) (lit≤ tt) (lit≤ tt)
+wide-most = by-row (λ f. f .wide ≤ 8) (lit≤ tt) (lit≤ tt) (lit≤ tt) (lit≤ tt) (lit≤ tt)
 
 pub form-most : (version : ℕ) → 5 + formOf version .wide + formOf version .more ≤ headerRoom
-form-most = by-row (λ f. 5 + f .wide + f .more ≤ headerRoom) (lit≤ tt) (lit≤ tt) (lit≤ tt) (lit≤ tt)
+form-most = by-row (λ f. 5 + f .wide + f .more ≤ headerRoom) (lit≤ tt) (lit≤ tt) (lit≤ tt) (lit≤ tt) (lit≤ tt)
 
 -- where a later number stands that the version tells
 pub later-inside : (version k : ℕ) (f : Form) → f ≡ formOf version → k < f .more → 5 + f .wide + k < headerRoom
@@ -50,23 +51,23 @@ later-inside version k f e h =
 
 pub size-least : (version : ℕ) → 3 ≤ formSize (formOf version)
 unfolding formSize
-size-least = by-row (λ f. 3 ≤ formSize f) (lit≤ tt) (lit≤ tt) (lit≤ tt) (lit≤ tt)
+size-least = by-row (λ f. 3 ≤ formSize f) (lit≤ tt) (lit≤ tt) (lit≤ tt) (lit≤ tt) (lit≤ tt)
 
 pub size-most : (version : ℕ) → formSize (formOf version) ≤ headerRoom
 unfolding formSize
-size-most = by-row (λ f. formSize f ≤ headerRoom) (lit≤ tt) (lit≤ tt) (lit≤ tt) (lit≤ tt)
+size-most = by-row (λ f. formSize f ≤ headerRoom) (lit≤ tt) (lit≤ tt) (lit≤ tt) (lit≤ tt) (lit≤ tt)
 
 size-unknown : (version : ℕ) → formSize (formOf version) ≡ 3 → known (formOf version) ≡ false
 unfolding formSize
-size-unknown = by-row (λ f. formSize f ≡ 3 → known f ≡ false) (λ e. absurd (omega arith)) (λ e. absurd (omega arith)) (λ e. absurd (omega arith)) (λ e. refl)
+size-unknown = by-row (λ f. formSize f ≡ 3 → known f ≡ false) (λ e. absurd (omega arith)) (λ e. absurd (omega arith)) (λ e. absurd (omega arith)) (λ e. absurd (omega arith)) (λ e. refl)
 
 size-known : (version : ℕ) → formSize (formOf version) ≢ 3 → known (formOf version) ≡ true
 unfolding formSize
-size-known = by-row (λ f. formSize f ≢ 3 → known f ≡ true) (λ e. refl) (λ e. refl) (λ e. refl) (λ e. absurd (e refl))
+size-known = by-row (λ f. formSize f ≢ 3 → known f ≡ true) (λ e. refl) (λ e. refl) (λ e. refl) (λ e. refl) (λ e. absurd (e refl))
 
 size-of-known : (version : ℕ) → formSize (formOf version) ≢ 3 → formSize (formOf version) ≡ 5 + formOf version .wide + formOf version .more
 unfolding formSize
-size-of-known = by-row (λ f. formSize f ≢ 3 → formSize f ≡ 5 + f .wide + f .more) (λ e. refl) (λ e. refl) (λ e. refl) (λ e. absurd (e refl))
+size-of-known = by-row (λ f. formSize f ≢ 3 → formSize f ≡ 5 + f .wide + f .more) (λ e. refl) (λ e. refl) (λ e. refl) (λ e. refl) (λ e. absurd (e refl))
 
 -- ---- version 2
 
@@ -91,6 +92,18 @@ module _ (bytes : List ℕ) (third : getD bytes 2 0 ≡ 3) where
   pub row-told : arrayIn bytes ≡ arrayOf (getD bytes 3 0) (numberOf (take 4 (drop 5 bytes))) (getD bytes 4 0) (getD bytes 9 0) (getD bytes 10 0)
   unfolding arrayIn later formOf
   row-told = rw third
+
+-- ---- version 4
+
+module _ (bytes : List ℕ) (fourth : getD bytes 2 0 ≡ 4) where
+  pub fifteen-bytes : headerSize bytes ≡ 15
+  unfolding formOf formSize
+  fifteen-bytes = rw fourth
+
+  -- version 3's numbers, the stripes in eight bytes
+  pub stripes-told : arrayIn bytes ≡ arrayOf (getD bytes 3 0) (numberOf (take 8 (drop 5 bytes))) (getD bytes 4 0) (getD bytes 13 0) (getD bytes 14 0)
+  unfolding arrayIn later formOf
+  stripes-told = rw fourth
 
 -- ---- a header that comes in pieces
 

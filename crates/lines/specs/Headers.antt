@@ -25,7 +25,8 @@ formOf version =
     cond (eqb version 1) (form 4 0)
     (cond (eqb version 2) (form 4 1)
     (cond (eqb version 3) (form 4 2)
-    (form 0 0)))
+    (cond (eqb version 4) (form 8 2)
+    (form 0 0))))
 
 -- the form of the header that begins so, unknown where its version has not come
 abbrev pub headerForm : List ℕ → Form

@@ -29,6 +29,9 @@ fn form_of(version: u8) -> Form
     if version == 3 {
         return Form { wide: 4, more: 2 };
     }
+    if version == 4 {
+        return Form { wide: 8, more: 2 };
+    }
     Form { wide: 0, more: 0 }
 }
 

@@ -8,7 +8,7 @@ use native.Mathlib.Omega.{arith}
 use borrow.Author.Tests.{ltb-true, leb-true, eqb-true, lt-ltb, le-ltb, eq-eqb, ne-eqb}
 use lib.Dec.{leb, ltb, eqb}
 use lib.ListN.{length}
-use Rattle.layout.specs.Arrays.{stripeRefusal}
+use Rattle.layout.specs.Arrays.{mostStripes, stripeRefusal}
 use Rattle.layout.proofs.Ranges.{stripe-sound}
 use Rattle.stripe.specs.Stripes.{stripeLength}
 use Rattle.scan.specs.declared.Scan.{Scan}
@@ -24,7 +24,7 @@ pub record Fit (r : Report) : Type 0 where
   pub sound : stripeRefusal (r .scan .array) (r .scan .stripe) ≡ 0
   pub members : r .scan .array .members ≤ 16
   pub short : r .have < stripeLength (r .scan .array)
-  pub stripe : r .scan .stripe ≤ 268435456
+  pub stripe : r .scan .stripe ≤ mostStripes
   pub clean : r .clean ≤ r .scan .stripe
   pub bad : r .bad ≤ r .scan .stripe
   pub unchecked : r .unchecked ≤ r .scan .stripe
@@ -91,7 +91,7 @@ piece-keeps-stripe s m bytes k = go (eqb (pieceRefusal s m (length bytes) k) 0)
 
 -- so the numbers of the state with more bytes stay small
 pub held-small : (r held : Report) (scan : Scan) (m : ℕ) (bytes : List ℕ) (k have : ℕ) → Fit r → scan ≡ pieceState (r .scan) m bytes k
-    → held ≡ holding r (r .header) have scan → held .scan .stripe + (held .clean + held .bad + held .unchecked + held .torn) ≤ 4294967296
+    → held ≡ holding r (r .header) have scan → held .scan .stripe + (held .clean + held .bad + held .unchecked + held .torn) ≤ 1099511627776
 held-small r held scan m bytes k have f e h =
     let stripe : held .scan .stripe ≡ r .scan .stripe =
     ap (λ (x : Report). x .scan .stripe) h ∙ ap (λ (x : Scan). x .stripe) e ∙ piece-keeps-stripe (r .scan) m bytes k in

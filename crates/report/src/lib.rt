@@ -101,7 +101,7 @@ struct Counts {
 
 // The counts with one more verdict.
 fn count_one(clean: u64, bad: u64, unchecked: u64, torn: u64, verdict: Verdict) -> Counts
-    requires { ⌜ clean + bad + unchecked + torn ≤ 4294967296 ⌝ }
+    requires { ⌜ clean + bad + unchecked + torn ≤ 1099511627776 ⌝ }
     ensures { λ r. ⌜ record { clean = r .clean; bad = r .bad; unchecked = r .unchecked; torn = r .torn } ≡ counted (record { clean = clean; bad = bad; unchecked = unchecked; torn = torn }) (verdictNumbers verdict) ⌝ }
 {
     match verdict {
@@ -148,7 +148,7 @@ fn stripe_judged(
     out: &mut [u8],
 ) -> Fed
     requires { ⌜ lineRoom ≤ length (now out) ⌝ }
-    requires { ⌜ report .scan .stripe + (report .clean + report .bad + report .unchecked + report .torn) ≤ 4294967296 ⌝ }
+    requires { ⌜ report .scan .stripe + (report .clean + report .bad + report .unchecked + report .torn) ≤ 1099511627776 ⌝ }
     ensures { λ r. ⌜ Does (stripeJudged used report (now (work .entry)) (verdictNumbers verdict)) r (now (work .exit)) (now (out .entry)) (now (out .exit)) ⌝ }
 {
     let header = report.header;
@@ -189,7 +189,7 @@ fn stripe_judged(
 // The stripe is whole: by the scan's verdict, or the scan's refusal number, and the report is over.
 fn stripe_whole(used: usize, report: Report, work: &mut [u8], out: &mut [u8]) -> Fed
     requires { ⌜ lineRoom ≤ length (now out) ⌝ }
-    requires { ⌜ report .scan .stripe + (report .clean + report .bad + report .unchecked + report .torn) ≤ 4294967296 ⌝ }
+    requires { ⌜ report .scan .stripe + (report .clean + report .bad + report .unchecked + report .torn) ≤ 1099511627776 ⌝ }
     ensures { λ r. ⌜ Does (stripeWhole used report (now (work .entry)) (judgement (report .scan) (now (work .entry)))) r (now (work .exit)) (now (out .entry)) (now (out .exit)) ⌝ }
 {
     let scan = report.scan;

@@ -1,28 +1,29 @@
 -- A block that is good at one place, looked at where it does not belong: at another place of the array its guard fits and its reference tag
--- tells, with the application tag where a parity and a block of data are exchanged; in an array of another volume the application tag alone.
+-- tells, unless it is the same there, with the application tag where a parity and a block of data are exchanged; in an array of another
+-- volume the application tag alone.
 -- Assumes nothing.
-use mathlib.Core.Path.{_≡_, refl, sym, ap, ap₂, _∙_}
+use mathlib.Core.Path.{_≡_, refl, sym, ap, _∙_}
 use mathlib.Core.Bool.{Bool, true, false, cond, _&&_}
 use mathlib.Core.List.{List}
-use mathlib.Core.Logic.{_≢_}
+use mathlib.Core.Logic.{_≢_, _↔_}
 use Prim.Native.Nat.{ℕ, _+_, _*_, _<_}
-use native.Mathlib.Nat.{eq-of-mul-eq-mul-right}
+use native.Mathlib.Nat.{eq-of-mul-eq-mul-right, zero-add}
 use native.Mathlib.Omega.{arith}
 use borrow.Author.Tests.{eq-eqb, ne-eqb}
 use lib.Dec.{eqb}
-use Rattle.format.specs.Formats.{guard}
+use Rattle.format.specs.Formats.{guard, referenceOf}
 use Rattle.format.proofs.Sizes.{scale-some}
 use Rattle.layout.specs.Arrays.{arrayOf}
-use Rattle.layout.specs.Places.{isParity, blockNamed, referenceOf, ownerRefusal}
+use Rattle.layout.specs.Places.{isParity, blockNamed}
 use Rattle.layout.specs.declared.Array.{Array}
-use Rattle.layout.proofs.References.{parity-any-volume, named-any-volume}
+use Rattle.layout.proofs.Volumes.{parity-any-volume, named-any-volume}
 use Rattle.tag.specs.Blocks.{formatAt, dataOf}
 use Rattle.tag.specs.Tags.{applicationDue, referenceDue, carried, guardDue, due, faults, exempt, standing, foundIn, standingAt, good}
 use Rattle.tag.specs.declared.Fields.{Fields}
-use Rattle.tag.proofs.Fits.{faults-by, reference-alone, application-alone}
+use Rattle.tag.proofs.Fits.{faults-by, application-alone}
 use Rattle.tag.proofs.Guards.{guard-carried}
 use Rattle.tag.proofs.Cases.{standing-faults, good-fields, good-guard, good-due, good-checked}
-use Rattle.tag.proofs.OnePlace.{marks, due-injective}
+use Rattle.tag.proofs.OnePlace.{marks, good-kind}
 
 module _ (a : Array) (s m t k : ℕ) (block : List ℕ) (h : good a s m block ≡ true) where
   -- the guard that stands in it, that of its data, and the one due there
@@ -61,14 +62,22 @@ module _ (a : Array) (s m t k : ℕ) (block : List ℕ) (h : good a s m block �
       by-case true e = fits-carried (ap (λ (x : Bool). formatAt a .carries && x) (sym kind) ∙ e)
       by-case false e = fits-own e
 
-  -- at another place of its kind: the reference tag alone
-  pub other-place : ownerRefusal a s m ≡ 0 → ownerRefusal a t k ≡ 0 → isParity a s m ≡ isParity a t k → ((s ≡ t) × (m ≡ k) → ⊥) → standingAt a t k block ≡ 1
+  -- at another place of its kind: the reference tag alone, or nothing
+  pub other-place : isParity a s m ≡ isParity a t k → standingAt a t k block ≡ cond (eqb (referenceDue a s m) (referenceDue a t k)) 0 1
   unfolding due applicationDue
-  other-place here there kind elsewhere =
+  other-place kind =
       let mark = ap (λ (x : Bool). (cond x 0x8000 0 + a .volume) * formatAt a .scale) kind in
       stands-there
-      ∙ reference-alone (due a s m stored) (due a t k dueThere) (alike kind) mark
-      (λ e. elsewhere (due-injective a s m t k here there stored stored (ap₂ (λ (x y : ℕ). record { guard = stored; application = x; reference = y }) mark e)))
+      ∙ faults-by (due a s m stored) (due a t k dueThere) true true (eqb (referenceDue a s m) (referenceDue a t k))
+      (eq-eqb stored dueThere (alike kind)) (eq-eqb (applicationDue a s m) (applicationDue a t k) mark) refl
+      ∙ zero-add (cond (eqb (referenceDue a s m) (referenceDue a t k)) 0 1)
+
+  -- so it is good exactly at the places of its kind with its reference tag
+  pub good-where : (good a t k block ≡ true) ↔ ((isParity a s m ≡ isParity a t k) × (referenceDue a s m ≡ referenceDue a t k))
+  good-where = (
+    good-kind a s m t k block h,
+    λ same. eq-eqb (standingAt a t k block) 0 (other-place (same .0) ∙ rw (eq-eqb (referenceDue a s m) (referenceDue a t k) (same .1))),
+  )
 
   -- a parity where data belong, or data where the parity does: the application tag, and the reference tag unless it is the same; and the
   -- guard, where a carried one is not by chance that of the parity's own data
@@ -101,7 +110,7 @@ other-volume members stripes v w method row s m block other h =
     ∙ standing-faults (formatAt a) (due a s m g) (due b s m g) (ap (λ (x : ℕ). exempt (formatAt a) (due a s m x)) (sym same) ∙ good-checked a s m block h)
     ∙ application-alone (due a s m g) (due b s m g) refl
     (λ e. other (volumes (isParity a s m) v w (formatAt a .scale) (scale-some (formatAt a)) (e ∙ ap (λ (x : Bool). (cond x 0x8000 0 + w) * formatAt a .scale) (sym (parity-any-volume members stripes v w method row s m)))))
-    (ap referenceOf (named-any-volume members stripes v w method row s m))
+    (ap (referenceOf (formatAt a)) (named-any-volume members stripes v w method row s m))
   where
     volumes : (x : Bool) (v w scale : ℕ) → 0 < scale → (cond x 0x8000 0 + v) * scale ≡ (cond x 0x8000 0 + w) * scale → v ≡ w
     volumes true v w scale p e = omega (arith, eq-of-mul-eq-mul-right scale p (0x8000 + v) (0x8000 + w) e)

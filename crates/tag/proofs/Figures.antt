@@ -11,9 +11,10 @@ use borrow.Author.Tests.{eqb-true, eq-eqb}
 use lib.ListN.{length, getD}
 use lib.Seq.{drop-drop}
 use Rattle.crc.specs.Crc.{Bytes}
+use Rattle.format.specs.Formats.{referenceOf}
 use Rattle.format.specs.Methods.{formatOf}
 use Rattle.layout.specs.Arrays.{arrayOf}
-use Rattle.layout.specs.Places.{parityMember, lowestBlock, blockAt, indexAt, blockNamed, referenceOf}
+use Rattle.layout.specs.Places.{parityMember, lowestBlock, blockAt, indexAt, blockNamed}
 use Rattle.layout.specs.declared.Array.{Array}
 use Rattle.tag.specs.Numbers.{bytesOf, numberOf}
 use Rattle.tag.specs.Blocks.{tagOf}
@@ -41,6 +42,20 @@ five = arrayOf 5 268435456 0 1 1
 pub far-parity : tagBytes (formatOf 1) (due five 65536 1 0) ≡ 0x00 ∷ 0x00 ∷ 0x80 ∷ 0x00 ∷ 0x00 ∷ 0x04 ∷ 0x00 ∷ 0x00 ∷ []
 unfolding formatOf tagBytes due applicationDue referenceDue referenceOf blockNamed lowestBlock blockAt indexAt parityMember bytesOf
 far-parity = refl
+
+-- ---- farther: on both sides of block 4,294,967,296 of the largest array. Block 4,294,967,295 lies on member 4 of stripe 1,073,741,823, the next
+-- one on member 0 of stripe 1,073,741,824, whose reference tag is that of block 0 on member 1 of stripe 0; in a large block's tag it is not
+
+abbrev largest : ℕ → Array
+largest method = arrayOf 5 68719476736 0 method 1
+
+pub both-sides : (tagBytes (formatOf 1) (due (largest 1) 1073741823 4 0) ≡ 0x00 ∷ 0x00 ∷ 0x00 ∷ 0x00 ∷ 0xFF ∷ 0xFF ∷ 0xFF ∷ 0xFF ∷ [])
+    × (tagBytes (formatOf 1) (due (largest 1) 1073741824 0 0) ≡ 0x00 ∷ 0x00 ∷ 0x00 ∷ 0x00 ∷ 0x00 ∷ 0x00 ∷ 0x00 ∷ 0x00 ∷ [])
+    × (due (largest 1) 1073741824 0 0 ≡ due (largest 1) 0 1 0)
+    × (referenceDue (largest 3) 1073741824 0 ≡ 4294967296)
+    × (referenceDue (largest 3) 0 1 ≡ 0)
+unfolding formatOf tagBytes due applicationDue referenceDue referenceOf blockNamed lowestBlock blockAt indexAt parityMember bytesOf
+both-sides = (refl, refl, refl, refl, refl)
 
 -- ---- a whole block: bytes 512 and 513 are its guard, 514 and 515 its application tag, 516 to 519 its reference tag, each with the highest first
 

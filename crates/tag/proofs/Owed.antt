@@ -5,18 +5,17 @@ use mathlib.Core.Bool.{Bool, true, false, cond}
 use mathlib.Core.Logic.{_≢_}
 use Prim.Native.Nat.{ℕ, _+_, _*_, _^_, _<_}
 use native.Mathlib.Decide.{ℕ-discrete}
-use native.Mathlib.Nat.{zero-add, lt-of-lt-of-le}
+use native.Mathlib.Nat.{zero-add}
 use native.Mathlib.Omega.{arith}
 use borrow.Author.Tests.{eq-eqb, ne-eqb}
-use Rattle.format.proofs.Sizes.{application-small, reference-room}
-use Rattle.layout.specs.Places.{parityMember, lowestBlock, blockAt, indexAt, isParity, blockNamed, referenceOf, ownerRefusal, ownedNumbers, ownerNumbers}
+use Rattle.format.specs.Formats.{referenceOf}
+use Rattle.format.proofs.Sizes.{application-small}
+use Rattle.format.proofs.References.{reference-fits}
+use Rattle.layout.specs.Places.{parityMember, lowestBlock, blockAt, indexAt, isParity, blockNamed, ownerRefusal, ownedNumbers, ownerNumbers}
 use Rattle.layout.specs.declared.Array.{Array}
 use Rattle.layout.specs.declared.Owned.{Owned}
 use Rattle.layout.specs.declared.Owned.the-variants.{Refused, Parity, Data}
-use Rattle.layout.proofs.Ranges.{sound-block}
 use Rattle.layout.proofs.Numbers.{owner-refused, owner-of-parity, owner-of-data}
-use Rattle.layout.proofs.Bijection.{named-sound}
-use Rattle.layout.proofs.References.{reference-small as reference-fits}
 use Rattle.layout.proofs.Injective.{owned-injective}
 use Rattle.tag.specs.Blocks.{formatAt}
 use Rattle.tag.specs.Tags.{applicationDue, referenceDue, guardDue, due, dueAt, dueTo}
@@ -24,12 +23,6 @@ use Rattle.tag.proofs.Guards.{guard-by-kind, guard-alike}
 
 module _ (a : Array) (stripe member : ℕ) where
   -- ---- the two fields beside the guard fit their bytes
-
-  pub reference-small : ownerRefusal a stripe member ≡ 0 → referenceDue a stripe member < 2 ^ 32
-  unfolding referenceDue
-  reference-small sound =
-      let name = blockNamed a stripe member in
-      reference-fits a name (sound-block a name (named-sound a stripe member sound))
 
   pub application-fit : a .volume < 256 → applicationDue a stripe member < 256 ^ formatAt a .quarter
   unfolding applicationDue
@@ -39,18 +32,19 @@ module _ (a : Array) (stripe member : ℕ) where
       by-mark true = omega arith
       by-mark false = omega arith
 
-  pub reference-fit : ownerRefusal a stripe member ≡ 0 → referenceDue a stripe member < 256 ^ (2 * formatAt a .quarter)
-  reference-fit sound = lt-of-lt-of-le (reference-small sound) (reference-room (formatAt a))
+  pub reference-fit : referenceDue a stripe member < 256 ^ (2 * formatAt a .quarter)
+  unfolding referenceDue
+  reference-fit = reference-fits (formatAt a) (blockNamed a stripe member)
 
 module _ (a : Array) (stripe member guard : ℕ) where
   pub due-of-parity : member ≡ parityMember a stripe →
-      due a stripe member guard ≡ record { guard = guard; application = (0x8000 + a .volume) * formatAt a .scale; reference = referenceOf (lowestBlock a stripe) }
+      due a stripe member guard ≡ record { guard = guard; application = (0x8000 + a .volume) * formatAt a .scale; reference = referenceOf (formatAt a) (lowestBlock a stripe) }
   unfolding due applicationDue referenceDue blockNamed
   due-of-parity p = rw (eq-eqb member (parityMember a stripe) p)
 
   pub due-of-data : member ≢ parityMember a stripe →
       due a stripe member guard
-      ≡ record { guard = guard; application = a .volume * formatAt a .scale; reference = referenceOf (blockAt a stripe (indexAt a stripe member)) }
+      ≡ record { guard = guard; application = a .volume * formatAt a .scale; reference = referenceOf (formatAt a) (blockAt a stripe (indexAt a stripe member)) }
   unfolding due applicationDue referenceDue blockNamed
   due-of-data p = rw (ne-eqb member (parityMember a stripe) p, zero-add)
 

@@ -6,10 +6,10 @@ use mathlib.Core.List.{List, [], _∷_, _++_}
 use lib.Dec.{leb, eqb}
 use lib.ListN.{length, take, drop, replicate}
 use lib.Seq.{sets}
-use Rattle.format.specs.Formats.{Format, guard}
+use Rattle.format.specs.Formats.{Format, guard, referenceOf}
 use Rattle.layout.specs.Answers.{refuse, after, answer}
 use Rattle.layout.specs.Arrays.{within}
-use Rattle.layout.specs.Places.{isParity, blockNamed, referenceOf, ownerRefusal}
+use Rattle.layout.specs.Places.{isParity, blockNamed, ownerRefusal}
 use Rattle.layout.specs.declared.Array.{Array}
 use Rattle.layout.specs.declared.Owned.{Owned}
 use Rattle.layout.specs.declared.Owned.the-variants.{Parity, Data, Refused as NoPlace}
@@ -48,7 +48,7 @@ applicationDue a stripe member = (cond (isParity a stripe member) 0x8000 0 + a .
 
 -- the reference tag: that of the block number by which the place is named
 unfoldable pub referenceDue : Array → ℕ → ℕ → ℕ
-referenceDue a stripe member = referenceOf (blockNamed a stripe member)
+referenceDue a stripe member = referenceOf (formatAt a) (blockNamed a stripe member)
 
 -- a parity's place whose tag holds what the data members' guards combine to, and is not held against its own data
 abbrev pub carried : Array → ℕ → ℕ → Bool
@@ -70,8 +70,8 @@ dueAt a stripe member guard =
 -- the fields due by what lies at a place, to a parity with one guard and to every other block with another
 abbrev pub dueTo : Array → ℕ → ℕ → Owned → Fields
 dueTo a parity own (NoPlace number) = record { guard = 0; application = 0; reference = 0 }
-dueTo a parity own (Parity lowest) = record { guard = parity; application = (0x8000 + a .volume) * formatAt a .scale; reference = referenceOf lowest }
-dueTo a parity own (Data block) = record { guard = own; application = a .volume * formatAt a .scale; reference = referenceOf block }
+dueTo a parity own (Parity lowest) = record { guard = parity; application = (0x8000 + a .volume) * formatAt a .scale; reference = referenceOf (formatAt a) lowest }
+dueTo a parity own (Data block) = record { guard = own; application = a .volume * formatAt a .scale; reference = referenceOf (formatAt a) block }
 
 -- ---- how a block stands at a place: good, bad or unchecked
 

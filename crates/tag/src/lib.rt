@@ -185,7 +185,7 @@ pub fn due_to(array: Array, owned: Owned, parity: u64, own: u64) -> Fields
         },
         Owned::Parity { lowest } => {
             let application = format::scaled(method, PARITY + volume);
-            let reference = layout::reference(lowest);
+            let reference = format::reference(method, lowest);
             Fields {
                 guard: parity,
                 application,
@@ -194,7 +194,7 @@ pub fn due_to(array: Array, owned: Owned, parity: u64, own: u64) -> Fields
         }
         Owned::Data { block } => {
             let application = format::scaled(method, volume);
-            let reference = layout::reference(block);
+            let reference = format::reference(method, block);
             Fields {
                 guard: own,
                 application,

@@ -3,7 +3,7 @@
 use super::Outcome;
 use crate::random::Random;
 use model::format::{Format, in_bytes};
-use model::layout::{Array, Owner};
+use model::layout::{Array, MOST_STRIPES, Owner};
 use model::stripe::{self, Fits, UNCHECKED, Verdict, guard_of, is_combined};
 use model::{crc32c, guard};
 use std::ops::Range;
@@ -14,10 +14,20 @@ const STRIPES_EACH: usize = 1_430;
 pub const REFUSALS: usize = 20_000;
 
 #[rustfmt::skip]
-pub const STRIPES: [u64; 12] = [1, 2, 3, 7, 100, 384, 65_535, 65_536, 65_537, 268_435_328, 268_435_455, 268_435_456];
+pub const STRIPES: [u64; 20] = [
+    1, 2, 3, 7, 100, 384, 65_535, 65_536, 65_537, 268_435_455, 268_435_456, 268_435_457, 1_073_741_824, (1 << 32) - 1, 1 << 32, (1 << 32) + 1, (1 << 32) + 128,
+    MOST_STRIPES - 128, MOST_STRIPES - 1, MOST_STRIPES,
+];
 
 /// Numbers of stripes and of members that are refused; some are fit if they are cut to fewer bits.
-pub const FAR_STRIPES: [u64; 6] = [0, 268_435_457, 1 << 32, (1 << 32) + 1, 1 << 63, u64::MAX];
+pub const FAR_STRIPES: [u64; 6] = [
+    0,
+    MOST_STRIPES + 1,
+    MOST_STRIPES + (1 << 32),
+    1 << 40,
+    1 << 63,
+    u64::MAX,
+];
 #[rustfmt::skip]
 pub const FAR_MEMBERS: [usize; 11] = [0, 1, 2, 17, 18, 255, 256, 259, 65_539, (1 << 32) + 5, usize::MAX];
 
@@ -51,9 +61,9 @@ pub fn any_volume(random: &mut Random) -> u8 {
 pub fn array(random: &mut Random) -> Array {
     let stripes = match random.below(4) {
         0 => random.pick(&STRIPES),
-        1 => random.between(1, 268_435_456),
+        1 => random.between(1, MOST_STRIPES),
         2 => 128 * random.between(1, 20),
-        _ => 128 * random.between(1, 2_097_152),
+        _ => 128 * random.between(1, MOST_STRIPES / 128),
     };
     Array {
         members: random.between(3, 16) as usize,
@@ -67,8 +77,25 @@ pub fn array(random: &mut Random) -> Array {
 pub fn stripe_of(array: &Array, random: &mut Random) -> u64 {
     let last = array.stripes - 1;
     match random.below(3) {
-        0 => random.pick(&[0, last, last / 2, last.min(65_535), last.min(65_536)]),
+        0 => random.pick(&[
+            0,
+            last,
+            last / 2,
+            last.min(65_536),
+            last.min((1 << 32) - 1),
+            last.min(1 << 32),
+        ]),
+        1 => beside_far_block(array, random),
         _ => random.between(0, last),
+    }
+}
+
+/// A stripe with the block 2^32 or one beside it, where the array has it: there reference tags start anew.
+fn beside_far_block(array: &Array, random: &mut Random) -> u64 {
+    let block = random.between((1 << 32) - 2, (1 << 32) + 1);
+    match array.place(block) {
+        Ok(place) => place.stripe,
+        Err(_) => random.between(0, array.stripes - 1),
     }
 }
 
@@ -455,8 +482,7 @@ fn reference(case: &mut Case, member: usize, random: &mut Random) {
     change_one(case, member, case.format().reference(), random);
 }
 
-/// A reference past thirty-two bits, where there is room for one: the lower half, which alone could say what the block is, is the one due. No block
-/// has such a number while stripes are 2^28 at the most.
+/// Another number above thirty-two bits, where there is room for one: the lower half is the one due.
 fn far_reference(case: &mut Case, member: usize, random: &mut Random) {
     let places = case.format().reference();
     change_one(case, member, places.start..places.end - 4, random);

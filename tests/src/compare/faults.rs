@@ -46,7 +46,10 @@ fn fields(case: &Case, member: usize) -> Fields {
             3 => application << 16,
             _ => application,
         },
-        number,
+        match case.array.method {
+            3 => number,
+            _ => number % (1 << 32),
+        },
     ];
     let field = |at: usize| Field {
         found: found[at],

@@ -6,9 +6,10 @@ use super::{Outcome, Tally, VERDICTS, faults_name, known, tally};
 use crate::program::{self, Input};
 use crate::random::Random;
 use model::format::Format;
-use model::layout::Array;
+use model::layout::{Array, MOST_STRIPES};
 use model::report;
 use model::stripe::{self, Fits, Verdict};
+use std::ops::Range;
 use std::thread;
 use std::time::Duration;
 
@@ -21,7 +22,7 @@ const IMAGES: usize = 450;
 const TORN: usize = 512;
 
 /// The versions of a header are 1 to this one.
-const LAST_VERSION: u8 = 3;
+const LAST_VERSION: u8 = 4;
 
 /// Places in a block: the ends of the data, and each byte of the tag.
 fn places(format: &Format) -> Vec<usize> {
@@ -33,7 +34,7 @@ fn places(format: &Format) -> Vec<usize> {
 
 /// Headers and the numbers of their refusals: where several numbers fit, 10 goes first, then 1, 2, 12 and 13.
 #[rustfmt::skip]
-const REFUSED: [(u32, &[u8]); 76] = [
+const REFUSED: [(u32, &[u8]); 87] = [
     (10, &[0, 6, 1, 3, 7, 0, 0, 0, 1]),
     (10, &[0, 8, 1, 3, 7, 0, 0, 0, 1]),
     (10, &[1, 7, 1, 3, 7, 0, 0, 0, 1]),
@@ -61,7 +62,13 @@ const REFUSED: [(u32, &[u8]); 76] = [
     (10, &[0, 9, 4, 3, 7, 0, 0, 0, 1, 2, 1]),
     (10, &[0, 9, 1, 3, 7, 0, 0, 0, 1, 1, 1]),
     (10, &[0, 9, 0, 2, 7, 0, 0, 0, 0, 0, 0]),
-    (10, &[0, 13, 4, 3, 7, 0, 0, 0, 0, 0, 0, 0, 1, 1, 1]),
+    (10, &[0, 12, 4, 3, 7, 0, 0, 0, 0, 0, 0, 0, 1, 1, 1]),
+    (10, &[0, 14, 4, 3, 7, 0, 0, 0, 0, 0, 0, 0, 1, 1, 1]),
+    (10, &[13, 0, 4, 3, 7, 0, 0, 0, 0, 0, 0, 0, 1, 1, 1]),
+    (10, &[1, 13, 4, 3, 7, 0, 0, 0, 0, 0, 0, 0, 1, 1, 1]),
+    (10, &[0, 10, 4, 3, 7, 0, 0, 0, 1, 1, 1, 1]),
+    (10, &[0, 13, 3, 3, 7, 0, 0, 0, 0, 0, 0, 0, 1, 1, 1]),
+    (10, &[0, 13, 5, 2, 7, 0, 0, 0, 0, 0, 0, 0, 1, 1, 1]),
     (10, &[0, 9, 2, 2, 7, 0, 0, 0, 0, 3]),
     (10, &[0, 10, 2, 3, 7, 0, 0, 0, 1, 2]),
     (1, &[0, 7, 1, 0, 7, 0, 0, 0, 1]),
@@ -72,6 +79,7 @@ const REFUSED: [(u32, &[u8]); 76] = [
     (1, &[0, 7, 1, 255, 7, 0, 0, 0, 1]),
     (1, &[0, 7, 1, 2, 7, 0, 0, 0, 0]),
     (1, &[0, 7, 1, 17, 7, 16, 0, 0, 1]),
+    (1, &[0, 13, 4, 2, 7, 0, 0, 0, 16, 0, 0, 0, 1, 4, 3]),
     (1, &[0, 8, 2, 2, 7, 0, 0, 0, 1, 1]),
     (1, &[0, 8, 2, 17, 7, 0, 0, 0, 1, 2]),
     (1, &[0, 8, 2, 2, 7, 0, 0, 0, 1, 3]),
@@ -80,16 +88,18 @@ const REFUSED: [(u32, &[u8]); 76] = [
     (1, &[0, 9, 3, 2, 7, 0, 0, 0, 1, 1, 1]),
     (1, &[0, 9, 3, 17, 7, 0, 0, 0, 0, 4, 3]),
     (2, &[0, 7, 1, 3, 7, 0, 0, 0, 0]),
-    (2, &[0, 7, 1, 3, 7, 16, 0, 0, 1]),
-    (2, &[0, 7, 1, 16, 7, 128, 0, 0, 1]),
-    (2, &[0, 7, 1, 5, 7, 255, 255, 255, 255]),
+    (2, &[0, 13, 4, 3, 7, 0, 0, 0, 0, 0, 0, 0, 0, 1, 1]),
+    (2, &[0, 13, 4, 3, 7, 0, 0, 0, 16, 0, 0, 0, 1, 1, 1]),
+    (2, &[0, 13, 4, 16, 7, 0, 0, 1, 0, 0, 0, 0, 1, 1, 1]),
+    (2, &[0, 13, 4, 16, 7, 128, 0, 0, 0, 0, 0, 0, 1, 4, 3]),
+    (2, &[0, 13, 4, 5, 7, 255, 255, 255, 255, 255, 255, 255, 255, 1, 1]),
     (2, &[0, 8, 2, 3, 7, 0, 0, 0, 0, 2]),
-    (2, &[0, 8, 2, 3, 7, 16, 0, 0, 1, 1]),
     (2, &[0, 8, 2, 3, 7, 0, 0, 0, 0, 0]),
-    (2, &[0, 8, 2, 3, 7, 16, 0, 0, 1, 3]),
-    (2, &[0, 8, 2, 16, 7, 16, 0, 0, 1, 255]),
+    (2, &[0, 8, 2, 16, 7, 0, 0, 0, 0, 255]),
     (2, &[0, 9, 3, 3, 7, 0, 0, 0, 0, 1, 1]),
-    (2, &[0, 9, 3, 3, 7, 16, 0, 0, 1, 4, 3]),
+    (2, &[0, 9, 3, 3, 7, 0, 0, 0, 0, 4, 3]),
+    (12, &[0, 13, 4, 3, 7, 0, 0, 0, 16, 0, 0, 0, 0, 0, 3]),
+    (12, &[0, 13, 4, 3, 7, 0, 0, 0, 0, 0, 0, 0, 1, 4, 1]),
     (12, &[0, 8, 2, 3, 7, 0, 0, 0, 1, 0]),
     (12, &[0, 8, 2, 3, 7, 0, 0, 0, 1, 4]),
     (12, &[0, 8, 2, 5, 7, 0, 0, 0, 6, 4]),
@@ -110,6 +120,8 @@ const REFUSED: [(u32, &[u8]); 76] = [
     (13, &[0, 9, 3, 16, 7, 0, 0, 1, 192, 1, 128]),
     (13, &[0, 9, 3, 16, 7, 16, 0, 0, 0, 3, 129]),
     (13, &[0, 9, 3, 16, 7, 0, 0, 0, 255, 3, 255]),
+    (13, &[0, 13, 4, 16, 7, 0, 0, 0, 15, 255, 255, 255, 192, 3, 128]),
+    (13, &[0, 13, 4, 16, 7, 0, 0, 0, 16, 0, 0, 0, 0, 1, 0]),
 ];
 
 /// The header of an image, of a version that can say its numbers.
@@ -446,13 +458,13 @@ fn every_number(compared: &mut Compared, random: &mut Random) -> Outcome<()> {
         [&first[..], rest].concat()
     };
     for number in 0..=u8::MAX {
-        let versions = [7, 8, 9].map(|length| {
+        let versions = [7, 8, 9, 13].map(|length| {
             let refused = match (number, length) {
                 (1, 7) => None,
-                (2, 8) | (3, 9) => Some(12),
+                (2, 8) | (3, 9) | (4, 13) => Some(12),
                 _ => Some(10),
             };
-            (header([length, number], 1, &[0, 0]), refused)
+            (header([length, number], 1, &[0; 6]), refused)
         });
         let no_method = (!cases::METHODS.contains(&number)).then_some(12);
         let no_row = (!cases::ROWS.contains(&number)).then_some(13);
@@ -460,6 +472,15 @@ fn every_number(compared: &mut Compared, random: &mut Random) -> Outcome<()> {
             (header([8, 2], 1, &[number]), no_method),
             (header([9, 3], 1, &[number, 1]), no_method),
             (header([9, 3], 128, &[array.method, number]), no_row),
+            (header([13, 4], 0, &[0, 0, 0, 1, number, 1]), no_method),
+            (
+                header([13, 4], 0, &[0, 0, 0, 128, array.method, number]),
+                no_row,
+            ),
+            (
+                header([13, 4], number, &[0, 0, 0, 0, array.method, 128]),
+                (!(1..=16).contains(&number)).then_some(2),
+            ),
             (
                 header([9, 3], 1, &[array.method, number]),
                 (number != 1).then_some(13),
@@ -479,6 +500,15 @@ fn every_number(compared: &mut Compared, random: &mut Random) -> Outcome<()> {
     Ok(())
 }
 
+/// Where the stripes stand in an image's header.
+fn stripes_in(image: &[u8]) -> Range<usize> {
+    if image[2] == LAST_VERSION {
+        5..13
+    } else {
+        5..9
+    }
+}
+
 /// A header in which one or two fields are others; now and then it is cut, or something follows.
 fn any_header(compared: &mut Compared, random: &mut Random) -> Outcome<()> {
     let mut image = any_version(&any_array(random), random);
@@ -488,9 +518,12 @@ fn any_header(compared: &mut Compared, random: &mut Random) -> Outcome<()> {
         image[place] = random.next() as u8;
     }
     match random.below(24) {
-        0..3 => image[8] = 0,
-        3 => image[1] = random.pick(&[7, 8, 9]),
-        4 => image[2] = random.pick(&[1, 2, 3]),
+        0..3 => {
+            let lowest = stripes_in(&image).end - 1;
+            image[lowest] = 0;
+        }
+        3 => image[1] = random.pick(&[7, 8, 9, 13]),
+        4 => image[2] = random.pick(&[1, 2, 3, 4]),
         _ => {}
     }
     match random.below(4) {
@@ -527,8 +560,12 @@ fn any_stripes(compared: &mut Compared, random: &mut Random) -> Outcome<()> {
             image.extend(random.bytes(more));
         }
         2 => {
-            let stripes = random.pick(&[1, 2, 9, 65_536, 65_537, 268_435_456]);
-            image[5..9].copy_from_slice(&u32::to_be_bytes(stripes));
+            let stripes =
+                random.pick(&[1, 2, 9, 65_536, 65_537, 268_435_456, 1 << 32, MOST_STRIPES]);
+            let places = stripes_in(&image);
+            let bytes = stripes.to_be_bytes();
+            let low = &bytes[bytes.len() - places.len()..];
+            image[places].copy_from_slice(low);
         }
         _ => {}
     }
@@ -544,7 +581,18 @@ pub fn compare(random: &mut Random) -> Outcome<String> {
         for method in cases::METHODS {
             verdicts(members, method, &mut compared, random)?;
         }
-        for said in [(1, 1), (2, 1), (2, 2), (2, 3), (3, 1), (3, 2), (3, 3)] {
+        for said in [
+            (1, 1),
+            (2, 1),
+            (2, 2),
+            (2, 3),
+            (3, 1),
+            (3, 2),
+            (3, 3),
+            (4, 1),
+            (4, 2),
+            (4, 3),
+        ] {
             ends(members, said, &mut compared, random)?;
         }
     }

@@ -6,7 +6,7 @@ use crate::lent::Lent;
 use crate::library;
 use crate::random::Random;
 use model::guard::guard;
-use model::layout::{Array, Owner, Place};
+use model::layout::{Array, MOST_STRIPES, Owner, Place};
 use model::stripe::{Checked, Fits, UNCHECKED};
 use std::collections::BTreeSet;
 use std::ops::Range;
@@ -16,7 +16,8 @@ const BLOCKS: &str = include_str!("../../vectors/t10-pi.txt");
 
 /// The kernel leaves the application tag at zero, as data of volume 0 have it.
 const VOLUME: u8 = 0;
-const STRIPES: u64 = 268_435_456;
+/// Blocks whose numbers differ by this have the same reference tag.
+const REFERENCES: u64 = 1 << 32;
 
 /// The lengths of a sector and of a block, which is the sector and its tag, and where the application tag stands.
 const DATA: usize = 512;
@@ -28,6 +29,7 @@ const APPLICATION: Range<usize> = 514..516;
 struct Seen {
     blocks: usize,
     good: usize,
+    alike: usize,
     elsewhere: usize,
     bits: usize,
     past: usize,
@@ -165,34 +167,55 @@ fn marked(array: &Array, place: Place, bytes: &[u8]) -> Outcome<()> {
 fn arrays() -> impl Iterator<Item = Array> {
     (3..=16).map(|members| Array {
         members,
-        stripes: STRIPES,
+        stripes: MOST_STRIPES,
         volume: VOLUME,
         method: 1,
         row: ROWS[members % ROWS.len()],
     })
 }
 
-/// A block in every array that has it; its bits are changed in one of them, for each block another. A tag holds the lower 32 bits of
-/// the number: a block past them is in no array, and its tag is that of the block whose number they are.
+/// The place of a block of the array, to the library and to the model.
+fn placed(array: &Array, number: u64) -> Outcome<Place> {
+    let found = library::place(array, number);
+    let place = Place {
+        stripe: found.stripe,
+        member: found.member as usize,
+    };
+    same(array.place(number), Ok(place))?;
+    Ok(place)
+}
+
+/// A tag holds the lower thirty-two bits of the number, so a block is good at every place of data whose number has the same ones, and at no place between.
+fn alike(array: &Array, number: u64, bytes: &[u8], seen: &mut Seen) -> Outcome<()> {
+    let low = number % REFERENCES;
+    let last = low + (array.blocks() - 1 - low) / REFERENCES * REFERENCES;
+    for other in [low, low + REFERENCES, low + 2 * REFERENCES, last] {
+        due(array, placed(array, other)?, bytes, Fits::ALL)?;
+        let between = placed(array, other.abs_diff(REFERENCES / 2))?;
+        let fits = Fits {
+            reference: false,
+            ..Fits::ALL
+        };
+        due(array, between, bytes, fits)?;
+        seen.alike += 1;
+    }
+    Ok(())
+}
+
+/// A block in every array; its bits are changed in one of them, for each block another.
 fn block(number: u64, bytes: &[u8], seen: &mut Seen) -> Outcome<()> {
     guards(bytes)?;
-    let tagged = number & u64::from(u32::MAX);
-    if number != tagged {
-        arrays().try_for_each(|array| same(3, library::place(&array, number).refusal))?;
+    if number >= REFERENCES {
         seen.past += 1;
     }
-    let having: Vec<Array> = arrays().filter(|array| tagged < array.blocks()).collect();
-    for (turn, array) in having.iter().enumerate() {
-        let found = library::place(array, tagged);
-        let place = Place {
-            stripe: found.stripe,
-            member: found.member as usize,
-        };
-        same(array.place(tagged), Ok(place))?;
+    for (turn, array) in arrays().enumerate() {
+        let array = &array;
+        let place = placed(array, number)?;
         due(array, place, bytes, Fits::ALL)?;
+        alike(array, number, bytes, seen)?;
         elsewhere(array, place, bytes, seen)?;
         marked(array, place, bytes)?;
-        if turn == seen.blocks % having.len() {
+        if turn == seen.blocks % arrays().count() {
             changed(array, place, bytes, seen)?;
         }
         seen.good += 1;
@@ -209,7 +232,7 @@ pub fn compare(_: &mut Random) -> Outcome<String> {
             .map_err(|difference| format!("line {at}: {difference}"))?;
     }
     Ok(format!(
-        "{} blocks that Linux wrote ({} past the reference tag), guards alike: good at {} places, bad at {} others and with {} bits changed one by one, unchecked when marked",
-        seen.blocks, seen.past, seen.good, seen.elsewhere, seen.bits
+        "{} blocks that Linux wrote ({} past thirty-two bits), guards alike: good at {} places and at {} with the same reference tag, bad at {} others and with {} bits changed one by one, unchecked when marked",
+        seen.blocks, seen.past, seen.good, seen.alike, seen.elsewhere, seen.bits
     ))
 }

@@ -5,7 +5,7 @@ use super::cases::{self, Case, METHODS};
 use super::{Outcome, Tally, all_named, known, standing, stripe as jobs, tag};
 use crate::random::Random;
 use model::format::Format;
-use model::layout::{Array, Owner};
+use model::layout::{Array, MOST_STRIPES, Owner};
 use model::stripe::{self, Checked, Fits, Read, Source, Verdict, combine_guards, guard_of};
 
 /// How often the cases are tried for each method and number of members: a stripe of method 3 takes eight times as long.
@@ -395,7 +395,7 @@ fn worked(method: u8, random: &mut Random, tally: &mut Tally) -> Outcome<()> {
     let in_row = u64::from(row);
     let array = Array {
         members: 5,
-        stripes: in_row * random.between(5, 268_435_456 / in_row),
+        stripes: in_row * random.between(5, MOST_STRIPES / in_row),
         volume: cases::any_volume(random),
         method,
         row,

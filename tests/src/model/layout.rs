@@ -26,13 +26,16 @@ pub enum Owner {
     Data { block: u64 },
 }
 
+/// The most stripes that an array can have.
+pub const MOST_STRIPES: u64 = 68_719_476_736;
+
 impl Array {
     /// Rows 1, 2, 12 and 13 of the refusals, in this order.
     pub fn fits(&self) -> Answer<()> {
         if !(3..=16).contains(&self.members) {
             return Err(1);
         }
-        if !(1..=268_435_456).contains(&self.stripes) {
+        if !(1..=MOST_STRIPES).contains(&self.stripes) {
             return Err(2);
         }
         if ![1, 2, 3].contains(&self.method) {

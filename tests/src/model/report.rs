@@ -1,6 +1,7 @@
 //! An image and the report on it: a header, then the stripes one after the other.
 
 use super::Answer;
+use super::format::number;
 use super::layout::Array;
 use super::stripe::{self, Fits, Verdict};
 
@@ -11,20 +12,25 @@ pub fn header(array: &Array) -> Vec<u8> {
 
 /// The first version that can say an array's numbers.
 pub fn first_version(array: &Array) -> u8 {
-    match (array.method, array.row) {
-        (1, 1) => 1,
-        (_, 1) => 2,
+    match (array.stripes, array.method, array.row) {
+        (0x1_0000_0000.., _, _) => 4,
+        (_, 1, 1) => 1,
+        (_, _, 1) => 2,
         _ => 3,
     }
 }
 
 /// The header of an image: how many bytes follow in it, the version, and the array's numbers, of which the first version leaves out the method,
-/// and the first two the row length.
+/// and the first two the row length. The fourth has eight bytes for the stripes.
 pub fn header_of(version: u8, array: &Array) -> Vec<u8> {
     let members = u8::try_from(array.members).expect("a header has one byte for the members");
-    let stripes = u32::try_from(array.stripes).expect("a header has four bytes for the stripes");
     let mut rest = vec![version, members, array.volume];
-    rest.extend(stripes.to_be_bytes());
+    if version >= 4 {
+        rest.extend(array.stripes.to_be_bytes());
+    } else {
+        let stripes = u32::try_from(array.stripes).expect("it has four bytes for the stripes");
+        rest.extend(stripes.to_be_bytes());
+    }
     if version >= 2 {
         rest.push(array.method);
     }
@@ -37,35 +43,22 @@ pub fn header_of(version: u8, array: &Array) -> Vec<u8> {
 
 /// The array that the header of an image speaks of, and what follows the header.
 fn opened(image: &[u8]) -> Answer<(Array, &[u8])> {
-    let (members, volume, stripes, [method, row], body) = match *image {
-        [0, 7, 1, n, volume, s0, s1, s2, s3, ref body @ ..] => {
-            (n, volume, [s0, s1, s2, s3], [1, 1], body)
-        }
-        [0, 8, 2, n, volume, s0, s1, s2, s3, method, ref body @ ..] => {
-            (n, volume, [s0, s1, s2, s3], [method, 1], body)
-        }
-        [
-            0,
-            9,
-            3,
-            n,
-            volume,
-            s0,
-            s1,
-            s2,
-            s3,
-            method,
-            row,
-            ref body @ ..,
-        ] => (n, volume, [s0, s1, s2, s3], [method, row], body),
+    let following = match *image {
+        [0, length @ 7..=9, version @ 1..=3, ..] if length == version + 6 => length.into(),
+        [0, 13, 4, ..] => 13,
         _ => return Err(10),
     };
+    let Some((header, body)) = image.split_at_checked(2 + following) else {
+        return Err(10);
+    };
+    let stripes = if header[2] < 4 { 5..9 } else { 5..13 };
+    let more = &header[stripes.end..];
     let array = Array {
-        members: usize::from(members),
-        stripes: u64::from(u32::from_be_bytes(stripes)),
-        volume,
-        method,
-        row,
+        members: usize::from(header[3]),
+        stripes: number(&header[stripes]),
+        volume: header[4],
+        method: more.first().copied().unwrap_or(1),
+        row: more.get(1).copied().unwrap_or(1),
     };
     array.fits().map(|()| (array, body))
 }

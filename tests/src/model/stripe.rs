@@ -113,8 +113,8 @@ pub fn combine<'a>(format: &Format, blocks: impl Iterator<Item = &'a [u8]>) -> V
     sum
 }
 
-/// The tag due at a place where the data have this guard: guard, application tag, zeros where bytes are spare, reference tag. The numbers of an
-/// array's blocks all have 32 bits, so that of the eight bytes which a reference tag has by method 3 the first four are zero so far.
+/// The tag due at a place where the data have this guard: guard, application tag, zeros where bytes are spare, reference tag. Of
+/// the block number the reference tag has the low thirty-two bits, by method 3 all of them.
 pub fn due(array: &Array, stripe: u64, member: usize, guard: u32) -> Vec<u8> {
     let (kind, number) = match array.owners(stripe)[member] {
         Owner::Parity { lowest } => (0x80, lowest),
@@ -125,7 +125,10 @@ pub fn due(array: &Array, stripe: u64, member: usize, guard: u32) -> Vec<u8> {
         in_bytes(guard.into(), format.guard().len()),
         vec![kind, array.volume],
         vec![0; format.spare().len()],
-        in_bytes(number, format.reference().len()),
+        match array.method {
+            3 => number.to_be_bytes().to_vec(),
+            _ => (number as u32).to_be_bytes().to_vec(),
+        },
     ]
     .concat()
 }

@@ -18,7 +18,14 @@ returns-3 c = rw (c .if3 .taken)
 
 returns-4 : tie.Need-returns-4
 unfolding formOf
-returns-4 c = rw (ne-eqb _ 1 (c .before .before .if1 .left), ne-eqb _ 2 (c .before .if2 .left), ne-eqb _ 3 (c .if3 .left))
+returns-4 c = rw (c .if4 .taken)
+
+returns-5 : tie.Need-returns-5
+unfolding formOf
+returns-5 c =
+    let third = c .before in
+    let second = third .before in
+    rw (ne-eqb _ 1 (second .before .if1 .left), ne-eqb _ 2 (second .if2 .left), ne-eqb _ 3 (third .if3 .left), ne-eqb _ 4 (c .if4 .left))
 
 pub form-of-spec : {M : Type 1} → statement M
-form-of-spec = tie.close (tie.spec returns returns-2 returns-3 returns-4)
+form-of-spec = tie.close (tie.spec returns returns-2 returns-3 returns-4 returns-5)
