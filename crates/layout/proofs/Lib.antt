@@ -5,6 +5,7 @@ pub mod Injective
 pub mod Members
 pub mod Blocks
 pub mod Numbers
+pub mod Seats
 pub mod Volumes
 pub mod Bijection
 pub mod Figures

@@ -1,7 +1,7 @@
 -- Where a block lies. The parity moves up by one member from row to row of c stripes, and the data stand on the other members
 -- in order: the layout that Linux md calls right-asymmetric, with a chunk of c blocks. At c = 1 a row is a stripe.
 -- Assumes nothing.
-use Prim.Native.Nat.{ℕ, _+_, _-_, _*_, _/_, _%_, _<_}
+use Prim.Native.Nat.{ℕ, _+_, _-_, _*_, _/_, _%_, _^_, _<_}
 use mathlib.Core.Path.{_≡_}
 use mathlib.Core.Bool.{Bool, cond}
 use mathlib.Core.List.{List, [], _∷_}
@@ -33,9 +33,14 @@ stripeOf a block = block / a .row / dataMembers a * a .row + block % a .row
 unfoldable pub indexOf : Array → ℕ → ℕ
 indexOf a block = block / a .row % dataMembers a
 
+-- the lowest block of a stripe, of any numbers: of the row forty bits count, and of the data members four, so that the product fits sixty-four.
+-- In a stripe of the array nothing is cut (`lowest-uncut`)
+unfoldable pub lowestCut : Array → ℕ → ℕ
+lowestCut a stripe = stripe / a .row % 1099511627776 * (dataMembers a % 16) * a .row + stripe % a .row
+
 -- what a stripe is found by: the member of its parity, and its lowest block
 abbrev pub seatOf : Array → ℕ → Seat
-seatOf a stripe = record { parity = parityMember a stripe; lowest = lowestBlock a stripe }
+seatOf a stripe = record { parity = parityMember a stripe; lowest = lowestCut a stripe }
 
 -- the member at a data index: the indices step over the parity member; and the index at a member that is not the parity's,
 unfoldable pub memberAt : Array → ℕ → ℕ → ℕ
@@ -67,6 +72,13 @@ abbrev pub ownedNumbers : Owned → List ℕ
 ownedNumbers (OwnerRefused number) = 0 ∷ number ∷ 0 ∷ 0 ∷ []
 ownedNumbers (Parity lowest) = 1 ∷ 0 ∷ 1 ∷ lowest ∷ []
 ownedNumbers (Data block) = 1 ∷ 0 ∷ 0 ∷ block ∷ []
+
+-- the same by the row length and what a stripe is found by, whatever these are: of an index the lowest byte counts, and of a block number
+-- sixty-four bits. With a stripe's own, on one of its members, it is the owner (`beside-owner`)
+unfoldable pub besideNumbers : ℕ → Seat → ℕ → List ℕ
+besideNumbers row seat member =
+    cond (eqb member (seat .parity)) (1 ∷ 0 ∷ 1 ∷ seat .lowest ∷ [])
+    (1 ∷ 0 ∷ 0 ∷ (seat .lowest + indexBeside (seat .parity) member % 256 * row) % 2 ^ 64 ∷ [])
 
 unfoldable pub ownerRefusal : Array → ℕ → ℕ → ℕ
 ownerRefusal a stripe member = orPast (stripeRefusal a stripe) member (a .members) 5

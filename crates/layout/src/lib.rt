@@ -1,5 +1,6 @@
 // Where the blocks of an array lie: from a block number to its stripe and member, and back.
 // A call decides first: its refusal number, 0 where nothing is refused; only then does it compute.
+use std::num::wrapping_add_u64;
 ghost use mathlib.Core.Path.{_≡_};
 ghost use mathlib.Core.Bool.{not};
 ghost use Prim.Native.Nat.{_-_, _/_, _%_, _<_, _≤_};
@@ -7,7 +8,7 @@ ghost use Rattle.layout.specs.Answers.{refuse, orPast};
 ghost use Rattle.layout.specs.Arrays.{arrayOf, noArray, within, rowFit, arrayRefusal, dataMembers, stripeRefusal, blockRefusal};
 ghost use Rattle.layout.specs.Places.{
   parityMember,
-  lowestBlock,
+  lowestCut,
   stripeOf,
   indexOf,
   seatOf,
@@ -16,6 +17,7 @@ ghost use Rattle.layout.specs.Places.{
   placedNumbers,
   placeNumbers,
   ownedNumbers,
+  besideNumbers,
   ownerNumbers,
   ownerRefusal,
 };
@@ -77,6 +79,9 @@ const MOST_STRIPES: u64 = 68719476736;
 const MOST_METHODS: u64 = 3;
 
 const LONGEST_ROW: u64 = 128;
+
+// More rows of stripes than any array has.
+const ROWS: u64 = 1099511627776;
 
 // x lies between low and high, both included.
 fn is_within(low: u64, high: u64, x: u64) -> bool
@@ -215,13 +220,12 @@ pub fn index_beside(parity: usize, member: usize) -> usize
     }
 }
 
-// The lowest block of a stripe.
+// The lowest block of a stripe; of numbers that no array has, what is left of it within sixty-four bits.
 fn lowest_block(array: Array, stripe: u64) -> u64
-    requires { ⌜ stripeRefusal array stripe ≡ 0 ⌝ }
-    ensures { λ r. ⌜ r ≡ lowestBlock array stripe ⌝ }
+    ensures { λ r. ⌜ r ≡ lowestCut array stripe ⌝ }
 {
     let row = array.row as u64;
-    over(stripe, row) * data_members(array) * row + rest(stripe, row)
+    over(stripe, row) % ROWS * (data_members(array) % MOST_MEMBERS) * row + rest(stripe, row)
 }
 
 // The stripe of a block, and its data index there.
@@ -253,9 +257,8 @@ pub fn place(array: Array, block: u64) -> Placed
     Placed::At { stripe, member }
 }
 
-// What a stripe of the array is found by.
+// What a stripe is found by.
 pub fn seat_of(array: Array, stripe: u64) -> Seat
-    requires { ⌜ stripeRefusal array stripe ≡ 0 ⌝ }
     ensures { λ r. ⌜ r ≡ seatOf array stripe ⌝ }
 {
     Seat {
@@ -264,19 +267,17 @@ pub fn seat_of(array: Array, stripe: u64) -> Seat
     }
 }
 
-// What lies at a place of the array, by what its stripe is found by.
-pub fn owner_beside(array: Array, stripe: u64, seat: Seat, member: usize) -> Owned
-    requires { ⌜ ownerRefusal array stripe member ≡ 0 ⌝ }
-    requires { ⌜ seat ≡ seatOf array stripe ⌝ }
-    ensures { λ r. ⌜ ownedNumbers r ≡ ownerNumbers array stripe member ⌝ }
+// What lies on a member of a stripe, by the row length and what the stripe is found by.
+pub fn owner_beside(row: u8, seat: Seat, member: usize) -> Owned
+    ensures { λ r. ⌜ ownedNumbers r ≡ besideNumbers row seat member ⌝ }
 {
     let parity = seat.parity;
     let lowest = seat.lowest;
     if member == parity {
         return Owned::Parity { lowest };
     }
-    let index = index_beside(parity, member);
-    let block = lowest + index as u64 * array.row as u64;
+    let index = index_beside(parity, member) % 256;
+    let block = wrapping_add_u64(lowest, index as u64 * row as u64);
     Owned::Data { block }
 }
 
@@ -288,5 +289,5 @@ pub fn owner(array: Array, stripe: u64, member: usize) -> Owned
     if refusal != 0 {
         return Owned::Refused(refusal);
     }
-    owner_beside(array, stripe, seat_of(array, stripe), member)
+    owner_beside(array.row, seat_of(array, stripe), member)
 }

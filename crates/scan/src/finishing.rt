@@ -69,7 +69,7 @@ fn standing(array: Array, stripe: u64, seat: Seat, member: usize, register: u32,
     let at = tag_at(method, member);
     let guard = format::guard_of(method, register);
     let found = tag::fields_at(tags, at, format::quarter(method));
-    let owned = layout::owner_beside(array, stripe, seat, member);
+    let owned = layout::owner_beside(array.row, seat, member);
     tag::standing(method, found, tag::expected_to(array, owned, found, guard))
 }
 

@@ -148,7 +148,7 @@ fn standing_by(
     requires { ⌜ seat ≡ seatOf array stripe ⌝ }
     ensures { λ r. ⌜ r ≡ standing (formatAt array) found (expected array stripe member found data_guard) ⌝ }
 {
-    let owned = layout::owner_beside(array, stripe, seat, member);
+    let owned = layout::owner_beside(array.row, seat, member);
     let expected = tag::expected_to(array, owned, found, data_guard);
     tag::standing(array.method, found, expected)
 }
@@ -286,7 +286,7 @@ fn write_tag(array: Array, stripe: u64, seat: Seat, member: usize, guard: u64, b
 {
     let method = array.method;
     let to = block_at(method, member) + format::data_length(method);
-    let place = layout::owner_beside(array, stripe, seat, member);
+    let place = layout::owner_beside(array.row, seat, member);
     let due = tag::due_to(array, place, guard, guard);
     tag::write(due, bytes, to, format::quarter(method));
 }

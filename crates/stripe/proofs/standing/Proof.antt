@@ -33,9 +33,7 @@ guard-requires : tie.Need-guard-requires
 guard-requires c κs = search needs
 
 seat-of-requires : tie.Need-seat-of-requires
-seat-of-requires c κs =
-    let s = c .before .before .before .before .before in
-    sound-stripe _ _ (place-sound _ _ _ (s .pre .0) .stripe)
+seat-of-requires c κs = search needs
 
 stored-requires : tie.Need-stored-requires
 stored-requires c κs = search needs

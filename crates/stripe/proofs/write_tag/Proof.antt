@@ -4,6 +4,7 @@ use mathlib.Core.Path.{refl, ap₂, _∙_}
 use Prim.Native.Nat.{ℕ, _+_}
 use native.Mathlib.Omega.{arith}
 use Rattle.tag.specs.Blocks.{formatAt}
+use Rattle.layout.proofs.Seats.{beside-owner}
 use Rattle.tag.proofs.Owed.{due-told}
 use Rattle.stripe.proofs.Blocks.{tag-in-place}
 use borrow.Author.Needs.{needs}
@@ -48,7 +49,7 @@ returns c =
     let b = l .before in
     let s = b .before .before in
     let a = s .args in
-    let due = d .due-to .ensures ∙ due-told (a .array) (a .stripe) (a .member) (a .guard) (a .guard) (o .owner-beside .result) (o .owner-beside .ensures) (a .guard) refl refl in
+    let due = d .due-to .ensures ∙ due-told (a .array) (a .stripe) (a .member) (a .guard) (a .guard) (o .owner-beside .result) (o .owner-beside .ensures ∙ beside-owner (a .array) (a .stripe) (a .member) (s .pre .0) (a .seat) (s .pre .1 .1)) (a .guard) refl refl in
     tag-in-place (a .array) (a .stripe) (a .member) (a .guard) (b .block-at .result + l .data-length .result) (d .due-to .result) (a .bytes .now) (w .write .last .1 .0)
     (s .pre .0) (s .pre .1 .0) due (ap₂ (λ (x y : ℕ). x + y) (b .block-at .ensures) (l .data-length .ensures))
     (q .quarter .result) (q .quarter .ensures) (w .write .ensures)

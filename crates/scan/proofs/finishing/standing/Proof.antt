@@ -3,6 +3,7 @@ use mathlib.Core.Path.{refl, _∙_}
 use Prim.Native.Nat.{_<_}
 use native.Mathlib.Omega.{arith}
 use Rattle.layout.proofs.Ranges.{place-sound}
+use Rattle.layout.proofs.Seats.{beside-owner}
 use Rattle.tag.specs.Blocks.{formatAt}
 use Rattle.tag.proofs.Owed.{expected-told}
 use Rattle.scan.proofs.Judging.{held-room, fields-held, held-by-steps}
@@ -49,7 +50,7 @@ returns c =
     let t = g .before in
     let s = t .before .before in
     let a = s .args in
-    let due = e .expected-to .ensures ∙ expected-told (a .array) (a .stripe) (a .member) _ (g .guard-of .result) (o .owner-beside .result) (o .owner-beside .ensures) (f .fields-at .result .guard) refl in
+    let due = e .expected-to .ensures ∙ expected-told (a .array) (a .stripe) (a .member) _ (g .guard-of .result) (o .owner-beside .result) (o .owner-beside .ensures ∙ beside-owner (a .array) (a .stripe) (a .member) (s .pre .0) (a .seat) (s .pre .1 .1)) (f .fields-at .result .guard) refl in
     let is = fields-held (formatAt (a .array)) (a .member) (t .tag-at .result) (q .quarter .result) (a .tags .now) (few s) (s .pre .1 .0) (t .tag-at .ensures) (q .quarter .ensures)
     (f .fields-at .result) (f .fields-at .ensures .0) (f .fields-at .ensures .1 .0) (f .fields-at .ensures .1 .1) in
     held-by-steps (a .array) (a .stripe) (a .member) (g .guard-of .result) (a .register) (a .tags .now) (s .pre .0)

@@ -25,7 +25,7 @@ abbrev μ-loop : tie.MeasureT-loop
 μ-loop tags array stripe values waiting members method seat standing₀ member₀ standing member = members - member
 
 seat-of-requires : tie.Need-seat-of-requires Inv-loop μ-loop
-seat-of-requires c κs = let s = c .before .before .before .before in s .pre .1 .1 .numbers
+seat-of-requires c κs = search needs
 
 loop-holds : tie.Need-loop-holds Inv-loop μ-loop
 loop-holds c = (omega arith, refl, refl)

@@ -55,9 +55,7 @@ returns c =
     (ap (λ (b : Bool). refuse (not b) 9 0) (sym unfit), ap (λ (b : Bool). cond b (rebuilt (a .array) (a .stripe) (a .member) (a .bytes .now)) (a .bytes .now)) (sym unfit))
 
 seat-of-requires : tie.Need-seat-of-requires
-seat-of-requires c κs =
-    let s = c .before .before .before .before .before .before .before .before .before .before in
-    sound-stripe _ _ (place-sound _ _ _ (s .pre .0) .stripe)
+seat-of-requires c κs = search needs
 
 slice-aggregate-write-block : tie.Need-slice-aggregate-write-block
 slice-aggregate-write-block c = search needs

@@ -36,9 +36,7 @@ make-data-requires c κs =
     (omega (arith, s .pre .1 .0), place-sound (s .args .array) (s .args .stripe) (s .args .member) (s .pre .0) .here)
 
 seat-of-requires : tie.Need-seat-of-requires
-seat-of-requires c κs =
-    let s = c .before .before .before .before .before .before in
-    sound-stripe _ _ (place-sound _ _ _ (s .pre .0) .stripe)
+seat-of-requires c κs = search needs
 
 write-tag-requires : tie.Need-write-tag-requires
 write-tag-requires c κs =

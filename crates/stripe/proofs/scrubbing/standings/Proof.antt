@@ -32,9 +32,7 @@ guards-requires : tie.Need-guards-requires Inv-loop μ-loop
 guards-requires c κs = search needs
 
 seat-of-requires : tie.Need-seat-of-requires Inv-loop μ-loop
-seat-of-requires c κs =
-    let s = c .before .before .before in
-    scrub-sound (s .args .array) (s .args .stripe) (length (s .args .bytes .now)) (s .pre) .0
+seat-of-requires c κs = search needs
 
 loop-holds : tie.Need-loop-holds Inv-loop μ-loop
 loop-holds c = (omega arith, refl, refl)

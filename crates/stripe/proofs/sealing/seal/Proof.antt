@@ -64,7 +64,7 @@ write-data-requires c κs =
     (fits d .stripe-good, (fits d .content-long, (fits d .stripe-long, g .guards .ensures ∙ ap (λ (k : ℕ). guardsOf (formatAt (a .array)) 16 k (a .content .now)) (d .data-length .ensures))))
 
 seat-of-requires : tie.Need-seat-of-requires
-seat-of-requires c κs = fits (c .before .before .before .before .before) .stripe-good
+seat-of-requires c κs = search needs
 
 make-data-requires : tie.Need-make-data-requires
 make-data-requires c κs = (omega (arith, as-long (c .before .before .before .before)), below (c .before))

@@ -37,9 +37,7 @@ rooms z =
     inside (a .array) (a .stripe) (a .member) (length (a .content .now)) (a .bytes .now) (s .pre .0) (sym (z .before .replace-refusal .ensures) ∙ z .if1 .left)
 
 seat-of-requires : tie.Need-seat-of-requires
-seat-of-requires c κs =
-    let s = c .before .before .before .before .before in
-    sound-stripe _ _ (place-sound _ _ _ (s .pre .0) .stripe)
+seat-of-requires c κs = search needs
 
 guard-requires : tie.Need-guard-requires
 guard-requires c κs = search needs
