@@ -285,11 +285,15 @@ uint32_t irumbolai_rebuild(size_t members, uint64_t stripes, uint8_t volume, uin
 
 /*
  * Puts new data into a block and brings the parity of its stripe along, its guard by the method. Both blocks must be
- * good, else the refusal is 9, also where one is unchecked; the other members are not looked at. A clean stripe stays
- * clean, a torn one torn. Gives the refusal.
+ * good, else the refusal is 9, also where one is unchecked. And nothing is built on a torn stripe, as far as its guards
+ * tell of it: the n guards as they stand, those of bad and unchecked members too, must combine by exclusive-or to zero,
+ * in method 3 with an odd n to the guard of a block of zeros, else the refusal is 9. That is what the quick scrub asks.
+ * So in methods 1 and 3 a stripe that is torn within as many successive bits as the guard reaches over is never
+ * updated; one torn otherwise may be, and stays torn. A clean stripe is always updated, and stays clean. The data of
+ * the other members are not looked at. Gives the refusal.
  *
  *   lent      data: D bytes, read; bytes: the stripe, n x B bytes, of which the B of the block and the B of the parity
- *             are read and written
+ *             are read and written, and the guards of all members read
  *   refusals  1, 2, 12, 13, 3, 6, 9
  */
 uint32_t irumbolai_update(size_t members, uint64_t stripes, uint8_t volume, uint8_t method, uint8_t row, uint64_t block,

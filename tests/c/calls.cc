@@ -560,6 +560,16 @@ static void scrubs()
     due_verdict(scrub({3, 1, 7, 0, 1}, 0, stripe), 12, 0, 0, 0);
     stripe = torn({0x01, 0x8B, 0xB7}, 0, 0);
     due_verdict(scrub(three, 0, stripe), 0, 2, 509, 0);
+    DUE(update(three, 0, Bytes(512, 0xFF), stripe), 0);
+    due_verdict(scrub(three, 0, stripe), 0, 2, 509, 0);
+    stripe = torn({0x01, 0x8B, 0xB6}, 0x8B, 0xB7);
+    DUE(update(three, 0, Bytes(512, 0xFF), stripe), 9);
+    DUE(stripe == torn({0x01, 0x8B, 0xB6}, 0x8B, 0xB7), true);
+    stripe = sealed();
+    stripe[2 * 520 + 514] = stripe[2 * 520 + 515] = 0xFF;
+    DUE(update(three, 0, Bytes(512), stripe), 0);
+    stripe[2 * 520 + 513] ^= 1;
+    DUE(update(three, 0, Bytes(512), stripe), 9);
 
     std::vector<uint16_t> guards = {0x176E, 0x8BB7, 0x9CD9};
     struct irumbolai_quick quick = irumbolai_quick_scrub(guards.data(), guards.size());

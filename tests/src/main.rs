@@ -31,6 +31,7 @@ const PARTS: &[(&str, Comparison)] = &[
     ("standing", compare::standing::compare),
     ("faults", compare::faults::compare),
     ("write hole", compare::write_hole::compare),
+    ("torn", compare::torn::compare),
     ("images", compare::images::compare),
     ("large image", compare::large::compare),
 ];

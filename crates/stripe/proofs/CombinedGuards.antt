@@ -6,6 +6,7 @@ use mathlib.Core.Logic.{_≢_}
 use mathlib.Core.List.{List, [], _∷_, map}
 use mathlib.Core.Bool.{Bool, true, false}
 use Prim.Native.Nat.{ℕ, suc, _*_, _<_}
+use borrow.Author.Tests.{eq-eqb}
 use lib.Bits.{bitXor, xor-comm, xor-zero-l}
 use lib.ListN.{length, getD}
 use Rattle.xor.proofs.Bits.{xor-twice, xor-undo}
@@ -23,6 +24,7 @@ use Rattle.verdict.specs.Verdicts.{saysClean, combinedGuards, quickNumbers}
 use Rattle.verdict.proofs.Quick.{sound-quick, compared-fits}
 use Rattle.stripe.specs.Tables.{table}
 use Rattle.stripe.specs.Stripes.{blockOf, memberData, storedGuard, storedGuards, Parity, Settled}
+use Rattle.stripe.specs.Jobs.{guardsAgree}
 use Rattle.stripe.specs.Verdicts.{scrubNumbers, scrubRefusal, clean, quickOf}
 use Rattle.stripe.proofs.Tables.{length-table, getD-table, table-ext, map-table}
 use Rattle.stripe.proofs.Rows.{length-span}
@@ -80,7 +82,12 @@ module _ (a : Array) (stripe : ℕ) (bytes : List ℕ) (is-clean : scrubNumbers 
   guards-zero : formatAt a .carries ≡ true → combinedGuards (stored a bytes) ≡ 0
   guards-zero carrying = guards-settled ∙ settled-carried (formatAt a) (a .members) carrying
 
-  -- so the quick scrub of them fits
+  -- so they agree
+  pub clean-agrees : guardsAgree a bytes ≡ true
+  unfolding guardsAgree
+  clean-agrees = eq-eqb (combinedGuards (stored a bytes)) (settled (formatAt a) (a .members)) guards-settled
+
+  -- and the quick scrub of them fits
   pub clean-fits : quickOf a (stored a bytes) ≡ 1 ∷ 0 ∷ 0 ∷ 0 ∷ []
   clean-fits =
       let sound = stripe-sound a stripe (scrub-sound a stripe (length bytes) taken .0) .array in

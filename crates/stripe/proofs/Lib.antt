@@ -26,7 +26,9 @@ pub mod Restores
 pub mod Quick
 pub mod StoredGuards
 pub mod CombinedGuards
+pub mod NotOnTorn
 pub mod Torn
+pub mod UpdateTorn
 pub mod Clean
 pub mod RebuildClean
 pub mod Cure

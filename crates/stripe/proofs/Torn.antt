@@ -107,7 +107,7 @@ module _ (size zeros x : ℕ) (rest : List ℕ) (data-size : size ≡ (formatAt 
       first : dataOf (formatAt bench) (tagged bench 0 0 0 (zerosThen zeros (x ∷ rest))) ≡ zerosThen zeros (x ∷ rest)
       first = data-of-tagged bench 0 0 0 (zerosThen zeros (x ∷ rest)) long
 
-  all-good : (m : ℕ) → m < 3 → good bench 0 m (getD (tornBlocks size zeros (x ∷ rest)) m []) ≡ true
+  pub all-good : (m : ℕ) → m < 3 → good bench 0 m (getD (tornBlocks size zeros (x ∷ rest)) m []) ≡ true
   all-good zero h = tagged-good bench 0 0 0 (zerosThen zeros (x ∷ rest)) long (place 0 h) (lit< tt)
   all-good (suc zero) h = tagged-good bench 0 1 0 (replicate size 0) zeros-long (place 1 h) (lit< tt)
   all-good (suc (suc zero)) h = tagged-good bench 0 2 0 (replicate size 0) zeros-long (place 2 h) (lit< tt)
@@ -142,7 +142,7 @@ module _ (size zeros x : ℕ) (rest : List ℕ) (data-size : size ≡ (formatAt 
       each-bytes (suc (suc (suc m))) = λ k. lit< tt
 
   -- the stored guards combine to the guard of the ending
-  guards-there : combinedGuards (map (storedGuard (formatAt bench)) (tornBlocks size zeros (x ∷ rest))) ≡ guard (x ∷ rest)
+  pub guards-there : combinedGuards (map (storedGuard (formatAt bench)) (tornBlocks size zeros (x ∷ rest))) ≡ guard (x ∷ rest)
   unfolding guard
   guards-there =
       let F = formatAt bench in
@@ -156,10 +156,10 @@ module _ (size zeros x : ℕ) (rest : List ℕ) (data-size : size ≡ (formatAt 
 
   -- ---- a rebuild of a data member, whose data are zeros: what comes back is the parity's ending, in a block that is good
 
-  block-there : (m : ℕ) → m < 3 → blockOf (formatAt bench) (joined (tornBlocks size zeros (x ∷ rest))) m ≡ getD (tornBlocks size zeros (x ∷ rest)) m []
+  pub block-there : (m : ℕ) → m < 3 → blockOf (formatAt bench) (joined (tornBlocks size zeros (x ∷ rest))) m ≡ getD (tornBlocks size zeros (x ∷ rest)) m []
   block-there m h = span-joined (formatAt bench .blockLength) 3 (λ m. getD (tornBlocks size zeros (x ∷ rest)) m []) m (whole .long) h
 
-  in-memory : length (joined (tornBlocks size zeros (x ∷ rest))) ≡ stripeLength bench
+  pub in-memory : length (joined (tornBlocks size zeros (x ∷ rest))) ≡ stripeLength bench
   in-memory = length-joined (formatAt bench .blockLength) 3 (λ m. getD (tornBlocks size zeros (x ∷ rest)) m []) (whole .long)
 
   was-zero : dataOf (formatAt bench) (blockOf (formatAt bench) (joined (tornBlocks size zeros (x ∷ rest))) 1) ≡ replicate size 0
@@ -202,25 +202,25 @@ module _ (size zeros x : ℕ) (rest : List ℕ) (data-size : size ≡ (formatAt 
 
 -- ---- the figures: torn at 509 both, the guards fit, and differ by 8BB7
 
-few-bytes : (a b c : ℕ) → a < 256 → b < 256 → c < 256 → Bytes (a ∷ b ∷ c ∷ [])
+pub few-bytes : (a b c : ℕ) → a < 256 → b < 256 → c < 256 → Bytes (a ∷ b ∷ c ∷ [])
 few-bytes a b c ha hb hc zero = ha
 few-bytes a b c ha hb hc (suc zero) = hb
 few-bytes a b c ha hb hc (suc (suc zero)) = hc
 few-bytes a b c ha hb hc (suc (suc (suc k))) = lit< tt
 
-guard-unseen : guard (0x01 ∷ 0x8B ∷ 0xB7 ∷ []) ≡ 0
+pub guard-unseen : guard (0x01 ∷ 0x8B ∷ 0xB7 ∷ []) ≡ 0
 unfolding guard run feed bitsOf bits bitStep
 guard-unseen = refl
 
-guard-seen : guard (0x01 ∷ 0x8B ∷ 0xB6 ∷ []) ≡ 0x8BB7
+pub guard-seen : guard (0x01 ∷ 0x8B ∷ 0xB6 ∷ []) ≡ 0x8BB7
 unfolding guard run feed bitsOf bits bitStep
 guard-seen = refl
 
-size-is : 512 ≡ formatAt bench .dataLength
+pub size-is : 512 ≡ formatAt bench .dataLength
 unfolding formatOf
 size-is = refl
 
-some-end : _≢_ {A = ℕ} 1 0
+pub some-end : _≢_ {A = ℕ} 1 0
 some-end e = omega arith
 
 pub torn-unseen : (scrubBlocks bench 0 (tornBlocks 512 509 (0x01 ∷ 0x8B ∷ 0xB7 ∷ [])) ≡ saysTorn 509)

@@ -37,6 +37,8 @@ use Rattle.stripe.proofs.Updates.{replace-taken, movedGuard}
 use Rattle.stripe.proofs.Tables.{length-table, getD-table}
 use Rattle.stripe.proofs.OneEntry.{one-entry-set}
 use Rattle.stripe.proofs.Carried.{guards-set}
+use Rattle.stripe.proofs.CombinedGuards.{clean-agrees}
+use Rattle.stripe.proofs.Clean.{sealed-clean}
 use Rattle.stripe.proofs.Updated.{movedData, update-keeps-length, update-own, update-parity, update-keeps-others}
 use Rattle.stripe.proofs.Contents.{withPart, part-new, part-kept, parity-moved}
 
@@ -171,7 +173,8 @@ module _ (a : Array) (block : ℕ) (content new : List ℕ) (sound : SoundBlock 
       let good = sealed-good a s content whole long small in
       rw (sound-block a block sound)
       (sym (replace-taken a s (memberOf a block) (length new) (sealed a s content) (length-sealed a s content whole long) size
-      (good (memberOf a block) (own-in a block content new sound long size)) (good (parityMember a s) (parity-in a block content new sound long size))))
+      (good (memberOf a block) (own-in a block content new sound long size)) (good (parityMember a s) (parity-in a block content new sound long size))
+      (clean-agrees a s (sealed a s content) (sealed-clean a s content whole long small))))
 
   pub update-of-sealed : updateBytes a block new (sealed a (stripeOf a block) content) ≡ sealed a (stripeOf a block) (updatedContent a block content new)
   update-of-sealed =

@@ -30,7 +30,7 @@ use Rattle.tag.proofs.Cases.{good-guard}
 use Rattle.tag.proofs.Guards.{own-data, own-plain, carried-parity, guard-own, guard-carried}
 use Rattle.tag.proofs.Tagged.{length-data, length-tagged, tagged-by}
 use Rattle.stripe.specs.Stripes.{stripeLength, blockOf, storedGuard}
-use Rattle.stripe.specs.Jobs.{unlessRefused, withBlock, storedGood, replaceRefusal, replaced, updateRefusal, updateBytes}
+use Rattle.stripe.specs.Jobs.{unlessRefused, withBlock, storedGood, guardsAgree, replaceRefusal, replaced, updateRefusal, updateBytes}
 use Rattle.stripe.specs.Accepted.{Replaceable}
 use Rattle.stripe.proofs.Rows.{length-span}
 use Rattle.stripe.proofs.Blocks.{data-then-tag, blocks-swap}
@@ -55,19 +55,34 @@ module _ (a : Array) (stripe member new : ℕ) (bytes : List ℕ) where
     replace-other-data h = rw (eq-eqb (length bytes) (stripeLength a) long, ne-eqb new (formatAt a .dataLength) h)
 
     module _ (size : new ≡ (formatAt a .dataLength)) where
-      replace-by-flags : (f g : Bool) → storedGood a stripe member bytes ≡ f → storedGood a stripe (parityMember a stripe) bytes ≡ g
-          → refuse (not (f && g)) 9 0 ≡ replaceRefusal a stripe member new bytes
+      replace-by-flags : (f g h : Bool) → storedGood a stripe member bytes ≡ f → storedGood a stripe (parityMember a stripe) bytes ≡ g → guardsAgree a bytes ≡ h
+          → refuse (not (f && g)) 9 (refuse (not h) 9 0) ≡ replaceRefusal a stripe member new bytes
       unfolding replaceRefusal
-      replace-by-flags f g own parity = rw (eq-eqb (length bytes) (stripeLength a) long, eq-eqb new (formatAt a .dataLength) size, own, parity)
+      replace-by-flags f g h own parity agree = rw (eq-eqb (length bytes) (stripeLength a) long, eq-eqb new (formatAt a .dataLength) size, own, parity, agree)
 
       pub replace-bad : storedGood a stripe member bytes ≡ false → 9 ≡ replaceRefusal a stripe member new bytes
-      replace-bad h = replace-by-flags false (storedGood a stripe (parityMember a stripe) bytes) h refl
+      replace-bad h = replace-by-flags false (storedGood a stripe (parityMember a stripe) bytes) (guardsAgree a bytes) h refl refl
 
       pub replace-bad-parity : storedGood a stripe member bytes ≡ true → storedGood a stripe (parityMember a stripe) bytes ≡ false → 9 ≡ replaceRefusal a stripe member new bytes
-      replace-bad-parity h p = replace-by-flags true false h p
+      replace-bad-parity h p = replace-by-flags true false (guardsAgree a bytes) h p refl
 
-      pub replace-taken : storedGood a stripe member bytes ≡ true → storedGood a stripe (parityMember a stripe) bytes ≡ true → 0 ≡ replaceRefusal a stripe member new bytes
-      replace-taken h p = replace-by-flags true true h p
+      module _ (own : storedGood a stripe member bytes ≡ true) (parity : storedGood a stripe (parityMember a stripe) bytes ≡ true) where
+        pub replace-unsettled : guardsAgree a bytes ≡ false → 9 ≡ replaceRefusal a stripe member new bytes
+        replace-unsettled h = replace-by-flags true true false own parity h
+
+        pub replace-taken : guardsAgree a bytes ≡ true → 0 ≡ replaceRefusal a stripe member new bytes
+        replace-taken h = replace-by-flags true true true own parity h
+
+      -- whatever else stands in the way, guards that do not agree do
+      pub replace-never : guardsAgree a bytes ≡ false → 9 ≡ replaceRefusal a stripe member new bytes
+      replace-never h =
+          by-flags (storedGood a stripe member bytes) (storedGood a stripe (parityMember a stripe) bytes)
+          ∙ replace-by-flags (storedGood a stripe member bytes) (storedGood a stripe (parityMember a stripe) bytes) false refl refl h
+        where
+          by-flags : (f g : Bool) → 9 ≡ refuse (not (f && g)) 9 9
+          by-flags true true = refl
+          by-flags true false = refl
+          by-flags false g = refl
 
   -- and back: nothing is refused
   pub replaceable : replaceRefusal a stripe member new bytes ≡ 0 → Replaceable a stripe member new bytes
@@ -75,10 +90,17 @@ module _ (a : Array) (stripe member new : ℕ) (bytes : List ℕ) where
   replaceable e =
       let lengths = eqb (length bytes) (stripeLength a) && eqb new (formatAt a .dataLength) in
       let flags = storedGood a stripe member bytes && storedGood a stripe (parityMember a stripe) bytes in
-      let h = refuse-none lengths 5 (refuse (not flags) 9 0) e in
+      let h = refuse-none lengths 5 (refuse (not flags) 9 (refuse (not (guardsAgree a bytes)) 9 0)) e in
+      let g = refuse-none flags 8 (refuse (not (guardsAgree a bytes)) 9 0) (h .1) in
       let l = both (eqb (length bytes) (stripeLength a)) (eqb new (formatAt a .dataLength)) (h .0) in
-      let f = both (storedGood a stripe member bytes) (storedGood a stripe (parityMember a stripe) bytes) (refuse-none flags 8 0 (h .1) .0) in
-      record { long = eqb-true (length bytes) (stripeLength a) (l .0); size = eqb-true new (formatAt a .dataLength) (l .1); own-good = f .0; parity-good = f .1 }
+      let f = both (storedGood a stripe member bytes) (storedGood a stripe (parityMember a stripe) bytes) (g .0) in
+      record {
+        long = eqb-true (length bytes) (stripeLength a) (l .0);
+        size = eqb-true new (formatAt a .dataLength) (l .1);
+        own-good = f .0;
+        parity-good = f .1;
+        agree = refuse-none (guardsAgree a bytes) 8 0 (g .1) .0;
+      }
     where
       both : (s t : Bool) → (s && t) ≡ true → (s ≡ true) × (t ≡ true)
       both true t e = (refl, e)

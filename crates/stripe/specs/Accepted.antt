@@ -10,7 +10,7 @@ use Rattle.layout.specs.declared.Array.{Array}
 use Rattle.tag.specs.Blocks.{formatAt}
 use Rattle.format.specs.Formats.{guard}
 use Rattle.stripe.specs.Stripes.{stripeLength, othersGood, othersData, guardsFit}
-use Rattle.stripe.specs.Jobs.{storedGood}
+use Rattle.stripe.specs.Jobs.{storedGood, guardsAgree}
 
 -- a seal
 pub record Fitting (a : Array) (stripe contentBytes stripeBytes : ℕ) : Type 0 where
@@ -31,3 +31,4 @@ pub record Replaceable (a : Array) (stripe member newBytes : ℕ) (bytes : List 
   pub size : newBytes ≡ formatAt a .dataLength
   pub own-good : storedGood a stripe member bytes ≡ true
   pub parity-good : storedGood a stripe (parityMember a stripe) bytes ≡ true
+  pub agree : guardsAgree a bytes ≡ true

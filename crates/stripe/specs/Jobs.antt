@@ -13,12 +13,12 @@ use Rattle.layout.specs.Answers.{refuse, after, answer}
 use Rattle.layout.specs.Arrays.{dataMembers, stripeRefusal, blockRefusal}
 use Rattle.layout.specs.Places.{parityMember, stripeOf, memberOf, indexAt, isParity, ownerRefusal}
 use Rattle.layout.specs.declared.Array.{Array}
-use Rattle.format.specs.Formats.{Format, guard}
+use Rattle.format.specs.Formats.{Format, guard, settled}
 use Rattle.tag.specs.Blocks.{formatAt, dataOf}
 use Rattle.tag.specs.Tags.{standingAt, good, bad, kindOf, tagged}
 use Rattle.stripe.specs.Tables.{table, joined, part}
 use Rattle.verdict.specs.Verdicts.{combinedGuards}
-use Rattle.stripe.specs.Stripes.{stripeLength, blockOf, othersData, storedGuard, othersGuards, recoverable}
+use Rattle.stripe.specs.Stripes.{stripeLength, blockOf, othersData, storedGuard, storedGuards, othersGuards, recoverable}
 use Rattle.stripe.specs.declared.Reading.{Reading}
 use Rattle.stripe.specs.declared.Reading.the-variants.{Refused, Stored, Rebuilt, Unchecked}
 
@@ -108,13 +108,19 @@ rebuilt a stripe member bytes =
 unfoldable pub rebuildBytes : Array → ℕ → ℕ → List ℕ → List ℕ
 rebuildBytes a stripe member bytes = unlessRefused (rebuildRefusal a stripe member bytes) (rebuilt a stripe member bytes) bytes
 
--- ---- update: a block's data replaced, and the parity and the guard that it may carry brought along; no other member is looked at
+-- ---- update: a block's data replaced, and the parity and the guard that it may carry brought along; of the other members only the guards
+-- in their tags are looked at
+
+-- the guards of all members, as they stand, combine to what those of a right stripe do: the quick scrub of them fits
+unfoldable pub guardsAgree : Array → List ℕ → Bool
+guardsAgree a bytes = eqb (combinedGuards (storedGuards (formatAt a) (a .members) bytes)) (settled (formatAt a) (a .members))
 
 -- of the block at a place: refusals 6 and 9, and the stripe with the new data
 unfoldable pub replaceRefusal : Array → ℕ → ℕ → ℕ → List ℕ → ℕ
 replaceRefusal a stripe member newBytes bytes =
     refuse (not (eqb (length bytes) (stripeLength a) && eqb newBytes (formatAt a .dataLength))) 6
-    (refuse (not (storedGood a stripe member bytes && storedGood a stripe (parityMember a stripe) bytes)) 9 0)
+    (refuse (not (storedGood a stripe member bytes && storedGood a stripe (parityMember a stripe) bytes)) 9
+    (refuse (not (guardsAgree a bytes)) 9 0))
 
 unfoldable pub replaced : Array → ℕ → ℕ → List ℕ → List ℕ → List ℕ
 replaced a stripe member new bytes =

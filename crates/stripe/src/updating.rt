@@ -8,15 +8,17 @@ ghost use Rattle.stripe.specs.Tables.{span};
 ghost use Rattle.layout.specs.Places.{isParity, ownerRefusal};
 ghost use mathlib.Core.Bool.{false};
 ghost use lib.Bits.{bitXor};
-ghost use Rattle.stripe.specs.Stripes.{blockOf, storedGuard};
-ghost use Rattle.stripe.specs.Jobs.{replaceRefusal, replaced, unlessRefused, updateRefusal, updateBytes};
+ghost use Rattle.stripe.specs.Stripes.{stripeLength, blockOf, storedGuard};
+ghost use Rattle.stripe.specs.Jobs.{guardsAgree, replaceRefusal, replaced, unlessRefused, updateRefusal, updateBytes};
 ghost use Rattle.format.specs.Formats.{pieceLength};
 ghost use Rattle.format.specs.Methods.{formatOf};
 ghost use Rattle.tag.specs.Blocks.{dataOf};
 ghost use Rattle.xor.specs.Xors.{xors};
 use crate::block_at;
 use crate::is_good;
+use crate::stored_combined;
 use crate::stored_guard;
+use crate::wide;
 use crate::write_block;
 use crate::write_tag;
 use copy::put;
@@ -24,7 +26,18 @@ use format::PIECE;
 use layout::Array;
 use layout::Placed;
 
-// The refusal number of a replacement: the lengths, then whether the block and the parity are good.
+// Whether the guards in the tags of all members, as they stand, combine to what those of a right stripe do.
+fn guards_agree(array: Array, bytes: &[u8]) -> bool
+    requires { ⌜ length (now bytes) ≡ stripeLength array ⌝ }
+    ensures { λ r. ⌜ r ≡ guardsAgree array (now (bytes .entry)) ⌝ }
+{
+    let members = array.members;
+    let method = array.method;
+    let combined = stored_combined(method, bytes, members, members);
+    combined == wide(format::settled(method, members))
+}
+
+// The refusal number of a replacement: the lengths, then whether the block and the parity are good, and whether the stripe's guards agree.
 fn replace_refusal(array: Array, stripe: u64, member: usize, content: usize, bytes: &[u8]) -> u8
     requires { ⌜ ownerRefusal array stripe member ≡ 0 ⌝ }
     ensures { λ r. ⌜ r ≡ replaceRefusal array stripe member content (now (bytes .entry)) ⌝ }
@@ -42,6 +55,9 @@ fn replace_refusal(array: Array, stripe: u64, member: usize, content: usize, byt
     }
     let parity = layout::parity_member(array, stripe);
     if !is_good(array, stripe, bytes, parity) {
+        return 9;
+    }
+    if !guards_agree(array, bytes) {
         return 9;
     }
     0

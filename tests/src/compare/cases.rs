@@ -325,7 +325,7 @@ impl Case {
     }
 
     /// Puts a guard into a tag, as much of it as goes in there.
-    fn put_guard(&mut self, member: usize, guard: u32) {
+    pub fn put_guard(&mut self, member: usize, guard: u32) {
         let places = self.format().guard();
         let guard = in_bytes(u64::from(guard) & self.widest_guard(), places.len());
         self.block(member)[places].copy_from_slice(&guard);
@@ -577,7 +577,7 @@ fn torn(case: &mut Case, member: usize, random: &mut Random) {
 }
 
 /// A torn stripe whose guards fit all the same: the difference is a multiple of the generator.
-fn torn_unnoticed(case: &mut Case, member: usize, random: &mut Random) {
+pub fn torn_unnoticed(case: &mut Case, member: usize, random: &mut Random) {
     let change = generator(case.array.method);
     let place = random.below(case.format().data - change.len() + 1);
     for (at, byte) in change.iter().enumerate() {

@@ -18,6 +18,7 @@ pub mod standing;
 pub mod stripe;
 pub mod tag;
 mod tally;
+pub mod torn;
 pub mod write_hole;
 
 use crate::library;

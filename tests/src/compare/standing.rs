@@ -97,6 +97,11 @@ fn when_clean(array: &Array) -> u32 {
     }
 }
 
+/// The guards that stand in a stripe combine as those of a clean one do, whoever is bad or unchecked.
+pub fn guards_agree(case: &Case) -> bool {
+    combine_guards(case.stored_guards()) == when_clean(&case.array)
+}
+
 /// A whole stripe that a job leaves.
 pub type Whole = Answer<Vec<u8>>;
 
@@ -119,7 +124,7 @@ pub fn rebuild(case: &Case, member: usize, tally: &mut Tally) -> Outcome<Whole> 
     Ok(stripe::rebuild(array, case.stripe, member, bytes))
 }
 
-fn update(case: &Case, block: u64, random: &mut Random, tally: &mut Tally) -> Outcome<Whole> {
+pub fn update(case: &Case, block: u64, random: &mut Random, tally: &mut Tally) -> Outcome<Whole> {
     let data = random.bytes(case.format().data);
     jobs::update(&case.array, block, &data, &case.bytes, tally)?;
     Ok(stripe::update(&case.array, block, &data, &case.bytes))
@@ -235,7 +240,8 @@ impl Made {
         self.left(&whole, &[member])
     }
 
-    /// An update is done where the block and the parity are good, however the others stand. It leaves these, and what all guards combine to.
+    /// An update is done where the block and the parity are good and all guards agree, however the others stand. It leaves these, and what all guards
+    /// combine to.
     fn update(
         &self,
         member: usize,
@@ -245,10 +251,8 @@ impl Made {
     ) -> Outcome<()> {
         let both = [member, self.case.array.parity_member(self.case.stripe)];
         let updated = update(&self.case, block, random, tally)?;
-        done_if(
-            both.iter().all(|member| self.standings[*member] == Good),
-            &updated,
-        )?;
+        let stand = both.iter().all(|member| self.standings[*member] == Good);
+        done_if(stand && guards_agree(&self.case), &updated)?;
         let Ok(whole) = updated else { return Ok(()) };
         let format = self.case.format();
         for member in both {
@@ -405,6 +409,7 @@ impl Sentences {
         tally: &mut Tally,
     ) -> Outcome<()> {
         let case = self.with(&[(marked, Unchecked)], Good, random);
+        let done = done && guards_agree(&case);
         done_if(done, &update(&case, self.block, random, tally)?)
     }
 
@@ -489,7 +494,7 @@ fn sentences(method: u8, members: usize, random: &mut Random, tally: &mut Tally)
         ("an unchecked parity is rebuilt", on.rebuild_marked(parity, random, tally)),
         ("an unchecked block is not updated", on.update_beside(one, false, random, tally)),
         ("a block with an unchecked parity is not updated", on.update_beside(parity, false, random, tally)),
-        ("a block beside an unchecked one is updated", on.update_beside(other, true, random, tally)),
+        ("a block beside an unchecked one is updated if all guards agree", on.update_beside(other, true, random, tally)),
         ("one member unchecked, another torn", on.torn(other, random, tally)),
         ("one member unchecked and torn", on.torn(one, random, tally)),
         ("one member bad, all others unchecked", on.bad_beside(random, tally)),

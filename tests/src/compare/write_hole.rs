@@ -252,14 +252,11 @@ impl Cut {
         self.parity_as_sealed(&case, random, tally)
     }
 
-    /// An update takes what is wrong with the guards along.
+    /// Nothing is built on guards that are wrong together.
     fn guard_changed_before_update(&self, random: &mut Random, tally: &mut Tally) -> Outcome<()> {
         let mut case = self.sealed.clone();
-        let torn = case.tear_guards(random);
-        let updated = self.updated(&case, tally)?;
-        let [before, after] = [&case, &updated].map(Case::stored_guards);
-        known(combine_guards(before), combine_guards(after))?;
-        standing::verdict(&updated, torn, random, tally)
+        case.tear_guards(random);
+        known(Err(9), standing::update(&case, self.number, random, tally)?)
     }
 
     /// A byte of the parity's data changed: only the whole stripe tells, and no member with data is made.

@@ -288,7 +288,18 @@ pub fn rebuild(array: &Array, stripe: u64, member: usize, bytes: &[u8]) -> Answe
     Ok(whole)
 }
 
-/// The stripe with `data` for a block, and its parity brought along.
+/// Whether the stored guards, as they stand, combine to what those of a clean stripe do: to zero, but by method 3, where that of a block of zeros is not
+/// zero, to this one if they are odd in number.
+fn guards_agree(array: &Array, bytes: &[u8]) -> bool {
+    let format = array.format();
+    let due = match (array.method, array.members % 2) {
+        (3, 1) => guard_of(array, &vec![0; format.data]),
+        _ => 0,
+    };
+    combine_guards(stored_guards(&format, bytes)) == due
+}
+
+/// The stripe with `data` for a block, and its parity brought along; nothing is built on a stripe whose guards tell that it is torn.
 pub fn update(array: &Array, block: u64, data: &[u8], bytes: &[u8]) -> Answer<Vec<u8>> {
     let place = array.place(block)?;
     let format = array.format();
@@ -299,6 +310,9 @@ pub fn update(array: &Array, block: u64, data: &[u8], bytes: &[u8]) -> Answer<Ve
         .iter()
         .all(|member| is_good(array, place.stripe, bytes, *member))
     {
+        return Err(9);
+    }
+    if !guards_agree(array, bytes) {
         return Err(9);
     }
     let [old_parity, old] = [parity, place.member].map(|member| &bytes[format.span(member)]);
