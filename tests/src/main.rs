@@ -32,6 +32,7 @@ const PARTS: &[(&str, Comparison)] = &[
     ("faults", compare::faults::compare),
     ("write hole", compare::write_hole::compare),
     ("torn", compare::torn::compare),
+    ("life", compare::life::compare),
     ("images", compare::images::compare),
     ("large image", compare::large::compare),
 ];

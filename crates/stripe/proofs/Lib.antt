@@ -22,6 +22,7 @@ pub mod Seals
 pub mod Sealed
 pub mod Contents
 pub mod UpdateSealed
+pub mod UpdateBeside
 pub mod Restores
 pub mod Quick
 pub mod StoredGuards
@@ -30,6 +31,7 @@ pub mod NotOnTorn
 pub mod Torn
 pub mod UpdateTorn
 pub mod Clean
+pub mod RebuildSealed
 pub mod RebuildClean
 pub mod Cure
 pub mod WriteHole

@@ -10,6 +10,7 @@ pub mod join;
 pub mod kernel;
 pub mod large;
 pub mod layout;
+pub mod life;
 pub mod md;
 mod runs;
 pub mod scan;

@@ -1,0 +1,16 @@
+pub mod Stands
+pub mod Reading
+pub mod Updating
+pub mod Rebuilding
+pub mod Losing
+pub mod Lives
+pub mod Keeping
+pub mod Theorem
+pub mod Promised
+pub mod Figures
+pub mod SomeLife
+pub mod Strays
+pub mod TwoBlocks
+pub mod WorkedLife
+pub mod BrokenLives
+pub mod SmallArray

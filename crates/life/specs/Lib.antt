@@ -1,0 +1,5 @@
+pub mod Events
+pub mod Runs
+pub mod Ledger
+pub mod LastAccepted
+pub mod WholeLife
