@@ -1,13 +1,14 @@
-//! Finds the proved library: the archive that IRUMBOLAI_ARCHIVE names, or the one that `rt staticlib` leaves.
-//! Only the comparisons link it.
+//! Links the proved library to the comparisons: the archive that IRUMBOLAI_ARCHIVE names. Where it names none only `sample` can be built, which
+//! wants no library.
 
 use std::env;
 
+const ARCHIVE: &str = "IRUMBOLAI_ARCHIVE";
+
 fn main() {
-    let library = env::var("IRUMBOLAI_ARCHIVE").unwrap_or_else(|_| {
-        format!("{}/../target/staticlib/libirumbolai.a", env!("CARGO_MANIFEST_DIR"))
-    });
-    println!("cargo::rerun-if-env-changed=IRUMBOLAI_ARCHIVE");
-    println!("cargo::rerun-if-changed={library}");
-    println!("cargo::rustc-link-arg-bin=model={library}");
+    println!("cargo::rerun-if-env-changed={ARCHIVE}");
+    if let Ok(library) = env::var(ARCHIVE) {
+        println!("cargo::rerun-if-changed={library}");
+        println!("cargo::rustc-link-arg-bin=model={library}");
+    }
 }
