@@ -1,3 +1,2 @@
 pub mod Figures
 pub mod Joins
-pub mod Text

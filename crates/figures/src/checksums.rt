@@ -1,8 +1,8 @@
 // Checksums: of runs, and of the stripe that source 000 works out.
-use crate::text::four_digits;
-use crate::text::named;
 use checksum::Summed;
 use checksum::checksum;
+use figures_text::guard_line;
+use figures_text::named;
 use libc::STDOUT_FILENO;
 
 // Four blocks of source 000 and their parity, then the first written anew, and the parity that goes with it. The source's words have four bits:
@@ -58,17 +58,17 @@ pub fn stripe() {
     let others = checksum(&B) ^ rest;
     let before = checksum(&A) ^ others;
     let anew = checksum(&A_ANEW) ^ others;
-    guard(b"parity's tag                 ", before);
-    guard(b"parity's tag anew            ", anew);
+    guard_line(b"parity's tag                 ", before);
+    guard_line(b"parity's tag anew            ", anew);
     io::write_all(STDOUT_FILENO, b"A anew, parity not: block B is\n");
     rebuilt(&A_ANEW, &PARITY);
-    guard(
+    guard_line(
         b"its guard by the others      ",
         checksum(&A_ANEW) ^ rest ^ before,
     );
     io::write_all(STDOUT_FILENO, b"parity anew, A not: block B is\n");
     rebuilt(&A, &PARITY_ANEW);
-    guard(b"its guard by the others      ", checksum(&A) ^ rest ^ anew);
+    guard_line(b"its guard by the others      ", checksum(&A) ^ rest ^ anew);
 }
 
 // One line: the checksum of block B as the others make it.
@@ -90,14 +90,6 @@ fn row(given: &[u8], bytes: &[u8]) {
             named(b"refusal ", number as u64);
             io::write_all(STDOUT_FILENO, b"\n");
         }
-        Summed::Sum { guard: found } => guard(given, found),
+        Summed::Sum { guard: found } => guard_line(given, found),
     }
-}
-
-// One line: what is given, and a guard.
-fn guard(given: &[u8], guard: u16) {
-    io::write_all(STDOUT_FILENO, given);
-    let found = four_digits(guard);
-    io::write_all(STDOUT_FILENO, &found);
-    io::write_all(STDOUT_FILENO, b"\n");
 }

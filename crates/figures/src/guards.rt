@@ -1,9 +1,9 @@
 // Guards: the published examples, and those of the bench table.
-use crate::text::four_digits;
+use figures_text::guard_line;
 use libc::STDOUT_FILENO;
 
-// The five examples of SBC-3, and the check value that catalogues of CRCs give.
-pub fn published() {
+// The five examples of SBC-3, the check value that catalogues of CRCs give, and the guards of the bench table.
+pub fn table() {
     io::write_all(STDOUT_FILENO, b"guard of                     is\n");
     row(b"00, 32 times                 ", &[0x00; 32]);
     row(b"FF, 32 times                 ", &[0xFF; 32]);
@@ -20,10 +20,6 @@ pub fn published() {
         b"\xFF\xFE\xFD\xFC\xFB\xFA\xF9\xF8\xF7\xF6\xF5\xF4\xF3\xF2\xF1\xF0\xEF\xEE\xED\xEC\xEB\xEA\xE9\xE8\xE7\xE6\xE5\xE4\xE3\xE2\xE1\xE0",
     );
     row(b"the characters 123456789     ", b"123456789");
-}
-
-// The guards of the bench table.
-pub fn bench() {
     row(b"no bytes                     ", b"");
     row(b"00                           ", b"\x00");
     row(b"01                           ", b"\x01");
@@ -33,10 +29,6 @@ pub fn bench() {
     row(b"01 8B B6                     ", b"\x01\x8B\xB6");
 }
 
-// One line: what is given, and its guard.
 fn row(given: &[u8], bytes: &[u8]) {
-    io::write_all(STDOUT_FILENO, given);
-    let found = four_digits(fold::guard(bytes));
-    io::write_all(STDOUT_FILENO, &found);
-    io::write_all(STDOUT_FILENO, b"\n");
+    guard_line(given, fold::guard(bytes));
 }

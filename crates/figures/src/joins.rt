@@ -1,5 +1,5 @@
 // Guards joined from guards and lengths.
-use crate::text::four_digits;
+use figures_text::guard_line;
 use libc::STDOUT_FILENO;
 
 // A record of three blocks, zero but for their last bytes 01, 02 and 03: joined from the blocks' guards, and from all its bytes.
@@ -13,15 +13,15 @@ pub fn record() {
     let third = fold::guard(&content[1024..1536]);
     let two = join::join(first, second, 512);
     io::write_all(STDOUT_FILENO, b"\nguard of a record's          is\n");
-    row(b"block that ends 01           ", first);
-    row(b"block that ends 02           ", second);
-    row(b"block that ends 03           ", third);
-    row(b"first two blocks, joined     ", two);
-    row(
+    guard_line(b"block that ends 01           ", first);
+    guard_line(b"block that ends 02           ", second);
+    guard_line(b"block that ends 03           ", third);
+    guard_line(b"first two blocks, joined     ", two);
+    guard_line(
         b"three blocks, joined         ",
         join::join(two, third, 512),
     );
-    row(b"1536 bytes                   ", fold::guard(&content));
+    guard_line(b"1536 bytes                   ", fold::guard(&content));
 }
 
 // As many zero bytes as there can be, and one fewer, after a run whose guard is D0DB.
@@ -33,16 +33,9 @@ pub fn zeros() {
 // Two lines: the guard with the zeros added, and with as many taken off again.
 fn added(given: &[u8], zeros: u32) {
     let longer = join::add_zeros(0xD0DB, zeros);
-    row(given, longer);
-    row(
+    guard_line(given, longer);
+    guard_line(
         b"and taken off again          ",
         join::remove_zeros(longer, zeros),
     );
-}
-
-fn row(given: &[u8], guard: u16) {
-    io::write_all(STDOUT_FILENO, given);
-    let found = four_digits(guard);
-    io::write_all(STDOUT_FILENO, &found);
-    io::write_all(STDOUT_FILENO, b"\n");
 }

@@ -1,5 +1,5 @@
 // Places of the bench table.
-use crate::text::named;
+use figures_text::named;
 use layout::Array;
 use layout::Owned;
 use layout::Placed;
@@ -11,20 +11,24 @@ const MANY: u64 = 268435456;
 const MOST: u64 = 68719476736;
 
 pub fn bench() {
+    let five = layout::array_of(5, MOST, 0, 1, 1);
+    let sixteen = layout::array_of(16, MOST, 0, 1, 1);
+    let two = layout::array_of(2, MOST, 0, 1, 1);
+    let seventeen = layout::array_of(17, MOST, 0, 1, 1);
     io::write_all(STDOUT_FILENO, b"\nplace of                     is\n");
-    place(b"n 5, L 0                     ", array(5), 0);
-    place(b"n 5, L 3                     ", array(5), 3);
-    place(b"n 5, L 4                     ", array(5), 4);
-    place(b"n 5, L 5                     ", array(5), 5);
-    place(b"n 5, L 65535                 ", array(5), 65535);
-    place(b"n 5, L 65536                 ", array(5), 65536);
-    owner(b"n 5, stripe 65536, member 1  ", array(5), 65536, 1);
-    place(b"n 5, L 4294967295            ", array(5), 4294967295);
-    place(b"n 5, L 4294967296            ", array(5), 4294967296);
-    place(b"n 16, L 1030792151039        ", array(16), 1030792151039);
-    place(b"n 16, L 1030792151040        ", array(16), 1030792151040);
-    place(b"n 2, L 0                     ", array(2), 0);
-    place(b"n 17, L 0                    ", array(17), 0);
+    place(b"n 5, L 0                     ", five, 0);
+    place(b"n 5, L 3                     ", five, 3);
+    place(b"n 5, L 4                     ", five, 4);
+    place(b"n 5, L 5                     ", five, 5);
+    place(b"n 5, L 65535                 ", five, 65535);
+    place(b"n 5, L 65536                 ", five, 65536);
+    owner(b"n 5, stripe 65536, member 1  ", five, 65536, 1);
+    place(b"n 5, L 4294967295            ", five, 4294967295);
+    place(b"n 5, L 4294967296            ", five, 4294967296);
+    place(b"n 16, L 1030792151039        ", sixteen, 1030792151039);
+    place(b"n 16, L 1030792151040        ", sixteen, 1030792151040);
+    place(b"n 2, L 0                     ", two, 0);
+    place(b"n 17, L 0                    ", seventeen, 0);
     let many = layout::array_of(16, MANY, 0, 1, 1);
     io::write_all(STDOUT_FILENO, b"\nn 16, S 268435456, place of  is\n");
     place(b"L 4026531839                 ", many, 4026531839);
@@ -33,19 +37,16 @@ pub fn bench() {
 
 // On both sides of block 4,294,967,296: the reference tag starts anew there, but not that of a large block.
 pub fn far() {
+    let five = layout::array_of(5, MOST, 0, 1, 1);
     io::write_all(STDOUT_FILENO, b"\nn 5, tag of                  is\n");
-    owner(b"stripe 1073741823, member 4  ", array(5), 1073741823, 4);
-    owner(b"stripe 1073741824, member 0  ", array(5), 1073741824, 0);
+    owner(b"stripe 1073741823, member 4  ", five, 1073741823, 4);
+    owner(b"stripe 1073741824, member 0  ", five, 1073741824, 0);
     owner(
         b"the same by method 3         ",
         layout::array_of(5, MOST, 0, 3, 1),
         1073741824,
         0,
     );
-}
-
-fn array(members: usize) -> Array {
-    layout::array_of(members, MOST, 0, 1, 1)
 }
 
 // Rows of four stripes, in which a member holds four successive blocks; and a row length that there is not.

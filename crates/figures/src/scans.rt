@@ -1,5 +1,5 @@
 // A scan of the bench table: a whole block in one piece, then a byte more, then none.
-use crate::text::named;
+use figures_text::named;
 use libc::STDOUT_FILENO;
 use scan::Scan;
 

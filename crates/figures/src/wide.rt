@@ -1,6 +1,6 @@
 // CRC-32C: the examples of RFC 3720, and the quick scrub of guards of blocks of 4,096 bytes.
-use crate::text::four_digits;
-use crate::text::named;
+use figures_text::four_digits;
+use figures_text::named;
 use libc::STDOUT_FILENO;
 use verdict::ComparedWide;
 

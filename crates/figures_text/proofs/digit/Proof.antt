@@ -1,9 +1,9 @@
--- `figures::text::digit` meets its contract.
+-- `figures_text::digit` meets its contract.
 -- Assumes nothing.
 use borrow.Author.Needs.{needs}
 use borrow.Author.Tests.{lt-ltb, le-ltb}
-use Rattle.figures.proofs.text.digit.Statement.{statement}
-use Rattle.figures.proofs.text.digit.Tie as tie
+use Rattle.figures_text.proofs.digit.Statement.{statement}
+use Rattle.figures_text.proofs.digit.Tie as tie
 
 cast-value : tie.Need-cast-value
 cast-value c = search needs

@@ -1,12 +1,20 @@
-// Numbers as the tables print them.
+// Numbers as the programs of figures print them.
 use libc::STDOUT_FILENO;
 ghost use mathlib.Core.Path.{_≡_};
-ghost use Rattle.figures.specs.Text.{digit, fourDigits, twoDigits};
+ghost use Rattle.figures_text.specs.Text.{digit, fourDigits, twoDigits};
 
 // A name, and a decimal number after it.
 pub fn named(name: &[u8], number: u64) {
     io::write_all(STDOUT_FILENO, name);
     io::print_decimal(STDOUT_FILENO, number);
+}
+
+// One line: what is given, and its guard.
+pub fn guard_line(given: &[u8], guard: u16) {
+    io::write_all(STDOUT_FILENO, given);
+    let found = four_digits(guard);
+    io::write_all(STDOUT_FILENO, &found);
+    io::write_all(STDOUT_FILENO, b"\n");
 }
 
 // A number in four hexadecimal digits, and a byte in two with a blank before them.
