@@ -1,7 +1,7 @@
 //! Blocks and tags that a Linux kernel wrote: good where they belong, bad with any bit changed or anywhere else, and unchecked once they are marked.
 
 use super::cases::ROWS;
-use super::{Outcome, known, same, tag};
+use super::{Outcome, bytes_of, known, same, tag};
 use crate::lent::Lent;
 use crate::library;
 use crate::random::Random;
@@ -33,14 +33,6 @@ struct Seen {
     elsewhere: usize,
     bits: usize,
     past: usize,
-}
-
-fn bytes_of(digits: &str) -> Outcome<Vec<u8>> {
-    let pairs = (0..digits.len()).step_by(2);
-    pairs
-        .map(|at| digits.get(at..at + 2).unwrap_or(""))
-        .map(|pair| u8::from_str_radix(pair, 16).map_err(|error| format!("{pair:?}: {error}")))
-        .collect()
 }
 
 /// The number and the bytes of a block in a line.

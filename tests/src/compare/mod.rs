@@ -47,6 +47,15 @@ fn known<T: PartialEq + Debug>(due: T, found: T) -> Outcome<()> {
     Err(format!("due is {due:?}, found {found:?}"))
 }
 
+/// Bytes from their hexadecimal digits.
+fn bytes_of(digits: &str) -> Outcome<Vec<u8>> {
+    let pairs = (0..digits.len()).step_by(2);
+    pairs
+        .map(|at| digits.get(at..at + 2).unwrap_or(""))
+        .map(|pair| u8::from_str_radix(pair, 16).map_err(|error| format!("{pair:?}: {error}")))
+        .collect()
+}
+
 /// How many named cases were tried, or the first of them that went wrong.
 fn all_named(members: usize, tried: &[(&str, Outcome<()>)]) -> Outcome<usize> {
     for (name, outcome) in tried {
