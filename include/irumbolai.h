@@ -86,7 +86,8 @@
  *
  * Refusals. A call that can be refused says so by number, 0 where it is done. It makes its tests in the order in
  * which its numbers are listed, and the first that fails decides. A refused call leaves every buffer as it was
- * and gives 0 in all other fields; a refused piece of a scan gives the state as it came.
+ * and gives 0 in all other fields; a refused piece of a scan gives the state as it came, and so does a refused turn or
+ * request of a patrol.
  *
  *    1  members, or the number of guards, is not 3 to 16
  *    2  stripes is not 1 to 68,719,476,736
@@ -95,7 +96,8 @@
  *    3  the array has no such stripe, or no such block
  *    4  the state of a scan is not fit: 1, 2, 12, 13 or 3 holds of its numbers; or, of one of its first n members, the
  *       position is above B, the register is above FFFFh in method 1 or 2, or a byte waits where none can: `waiting`
- *       has to be 0 unless the method is 2 and the position is odd and below 512
+ *       has to be 0 unless the method is 2 and the position is odd and below 512. Of a patrol: 1, 2, 12, 13 or 3 holds
+ *       of the numbers in its state
  *    5  the array has no such member
  *    6  a buffer has not the length that its call asks for
  *    7  a piece is longer than what its member still lacks of a block
@@ -418,6 +420,64 @@ struct irumbolai_taken irumbolai_piece(struct irumbolai_scan state, size_t membe
  *   refusals  4, 6, 8
  */
 struct irumbolai_verdict irumbolai_finish(struct irumbolai_scan state, const uint8_t *work, size_t work_length);
+
+/*
+ * A patrol: the scrub of a whole array beside the work, a stripe at a time. The caller keeps the state, and hands the
+ * state of the last answer to the next call. `next` is the stripe that comes next: read that one and lend it. Any S
+ * successive idle turns that are not refused scrub each stripe once, in order from `next` on and after the last from 0,
+ * whatever busy turns, requests and refused calls lie between; then it goes round again. Any state may be handed in:
+ * one that is not fit is refused by number 4 (but see the request), and a fit one that no patrol led to goes on from
+ * its `next`. A kept copy of the state is a patrol that can be taken up again.
+ */
+struct irumbolai_patrol {
+    size_t members;
+    uint64_t stripes;
+    uint8_t volume;
+    uint8_t method;
+    uint8_t row;
+    uint64_t next;
+};
+
+/*
+ * Begins a patrol: the state comes to stripe 0 next. Where it is refused the whole state is zero.
+ *
+ *   refusals  1, 2, 12, 13
+ */
+struct irumbolai_patrol_begun {
+    uint32_t refusal;
+    struct irumbolai_patrol state;
+};
+struct irumbolai_patrol_begun irumbolai_patrol_begin(size_t members, uint64_t stripes, uint8_t volume, uint8_t method,
+                                                     uint8_t row);
+
+/*
+ * A turn of a patrol: busy where `idle` is 0, idle where it is any other number. An idle turn scrubs the bytes as the
+ * stripe that comes next: `verdict` is what irumbolai_scrub says of them, `stripe` is that number, and the state comes
+ * to the stripe that follows, after the last to 0. A busy turn looks at no byte and moves nothing: `stripe` and all of
+ * `verdict` are 0, and the state is as it came. That does not mean that stripe 0 is clean: which turn it was only the
+ * caller knows.
+ *
+ *   lent      bytes: the stripe, n x B bytes, read; at a busy turn any number, and not read
+ *   refusals  4, 6 (of an idle turn), in verdict.refusal
+ */
+struct irumbolai_patrolled {
+    struct irumbolai_verdict verdict;
+    uint64_t stripe;
+    struct irumbolai_patrol state;
+};
+struct irumbolai_patrolled irumbolai_patrol_turn(struct irumbolai_patrol state, uint32_t idle, const uint8_t *bytes,
+                                                 size_t length);
+
+/*
+ * A stripe out of turn: scrubs the bytes as that stripe and does not move the patrol. `verdict` is what irumbolai_scrub
+ * says of them, `stripe` is the number that was asked for, and the state is as it came, refused or not. Refusal 3 is
+ * tested first, by `stripes` as it stands in the state, fit or not.
+ *
+ *   lent      bytes: the stripe, n x B bytes, read
+ *   refusals  3, 4, 6, in verdict.refusal
+ */
+struct irumbolai_patrolled irumbolai_patrol_request(struct irumbolai_patrol state, uint64_t stripe,
+                                                    const uint8_t *bytes, size_t length);
 
 #ifdef __cplusplus
 }

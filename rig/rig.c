@@ -1,8 +1,9 @@
 /*
- * The rig: looks at one stripe through libirumbolai.a and says what it finds. README.md has the format of its file,
- * its lines and its exit codes.
+ * The rig: looks at one stripe through libirumbolai.a and says what it finds, or patrols the stripes of a file between
+ * requests. README.md has the format of its files, its lines and its exit codes.
  *
  *     rig MEMBERS STRIPES VOLUME METHOD ROW STRIPE FILE
+ *     rig patrol MEMBERS STRIPES VOLUME METHOD ROW FILE TURN ..
  */
 #include <errno.h>
 #include <inttypes.h>
@@ -58,7 +59,7 @@ static const char *in_words(uint32_t refusal)
         [1] = "the members are not 3 to 16",
         [2] = "the stripes are not 1 to 68719476736",
         [3] = "the array has no such stripe or block",
-        [4] = "the state of the scan is not fit",
+        [4] = "the state is not fit",
         [5] = "the array has no such member",
         [6] = "a buffer is not as long as it has to be",
         [7] = "the piece is longer than what its member lacks",
@@ -259,6 +260,18 @@ static struct irumbolai_verdict scan(const struct stripe *stripe, size_t step)
     return irumbolai_finish(taken.state, work, work_length);
 }
 
+/* A decimal number, at most `most`. */
+static bool read_number(const char *text, uint64_t most, uint64_t *number)
+{
+    char *end;
+
+    if (text[0] < '0' || text[0] > '9')
+        return false;
+    errno = 0;
+    *number = strtoull(text, &end, 10);
+    return errno == 0 && *end == '\0' && *number <= most;
+}
+
 /* Asks the library everything about a stripe. */
 static enum exit_code look_at(const struct stripe *stripe)
 {
@@ -290,21 +303,22 @@ static enum exit_code look_at(const struct stripe *stripe)
     return agree && whole.kind == 0 && quick.differs == 0 ? CLEAN : FOUND;
 }
 
-/* A decimal number, at most `most`. */
-static bool read_number(const char *text, uint64_t most, uint64_t *number)
+/*
+ * Keeps what was read, in memory of exactly the number of its bytes, so that a tool which watches memory notices any step
+ * beyond. An empty buffer needs a pointer too: the library takes no NULL.
+ */
+static bool keep(const uint8_t *buffer, struct stripe *stripe)
 {
-    char *end;
-
-    if (text[0] < '0' || text[0] > '9')
+    stripe->bytes = malloc(stripe->length > 0 ? stripe->length : 1);
+    if (stripe->bytes == NULL)
         return false;
-    errno = 0;
-    *number = strtoull(text, &end, 10);
-    return errno == 0 && *end == '\0' && *number <= most;
+    memcpy(stripe->bytes, buffer, stripe->length);
+    return true;
 }
 
 /*
- * The bytes of a file, in memory of exactly their number, so that a tool which watches memory notices any step beyond.
- * Of a file longer than every stripe one byte too many is read, and the library refuses it for its length.
+ * The bytes of a file. Of one longer than every stripe one byte too many is read, and the library refuses it for its
+ * length.
  */
 static bool read_stripe(const char *path, struct stripe *stripe)
 {
@@ -319,39 +333,144 @@ static bool read_stripe(const char *path, struct stripe *stripe)
         return false;
     }
     fclose(file);
+    return keep(buffer, stripe);
+}
 
-    /* An empty buffer needs a pointer too: the library takes no NULL. */
-    stripe->bytes = malloc(stripe->length > 0 ? stripe->length : 1);
-    if (stripe->bytes == NULL)
+/* The words for the array's numbers: members, stripes, volume, method, row length. */
+static bool read_array(char **words, struct stripe *array)
+{
+    uint64_t members, volume, method, row;
+
+    if (!read_number(words[0], SIZE_MAX, &members) || !read_number(words[1], UINT64_MAX, &array->stripes) ||
+        !read_number(words[2], UINT8_MAX, &volume) || !read_number(words[3], UINT8_MAX, &method) ||
+        !read_number(words[4], UINT8_MAX, &row))
         return false;
-    memcpy(stripe->bytes, buffer, stripe->length);
+    array->members = (size_t)members;
+    array->volume = (uint8_t)volume;
+    array->method = (uint8_t)method;
+    array->row = (uint8_t)row;
     return true;
+}
+
+/*
+ * Reads a stripe out of a file that holds those of the whole array, one after the other: as many bytes of it as the file
+ * has, none where it ends before. A stripe past the array's end has none either.
+ */
+static bool fetch(FILE *file, uint64_t number, struct stripe *stripe)
+{
+    uint8_t buffer[MOST_MEMBERS * MOST_BLOCK];
+    size_t whole = stripe->members * block_bytes(stripe);
+
+    stripe->length = 0;
+    if (number < stripe->stripes) {
+        if (fseek(file, (long)(number * whole), SEEK_SET) != 0)
+            return false;
+        stripe->length = fread(buffer, 1, whole, file);
+        if (ferror(file))
+            return false;
+    }
+    return keep(buffer, stripe);
+}
+
+/*
+ * One call of a patrol. The word says what the host does: it is idle, it is busy, or it asks for a stripe by its number.
+ * A stripe is read only where one is looked at.
+ */
+static bool take_turn(const char *word, FILE *file, struct stripe *array, struct irumbolai_patrolled *last)
+{
+    bool idle = strcmp(word, "idle") == 0, busy = strcmp(word, "busy") == 0;
+    struct irumbolai_patrol state = last->state;
+    uint64_t asked = state.next;
+
+    if (!idle && !busy && !read_number(word, UINT64_MAX, &asked))
+        return false;
+    if (busy) {
+        *last = irumbolai_patrol_turn(state, 0, (const uint8_t *)"", 0);
+        return true;
+    }
+    if (!fetch(file, asked, array))
+        return false;
+    *last = idle ? irumbolai_patrol_turn(state, 1, array->bytes, array->length)
+                 : irumbolai_patrol_request(state, asked, array->bytes, array->length);
+    free(array->bytes);
+    return true;
+}
+
+/* Patrols the stripes of a file, one call for each word. What is refused leaves the patrol where it stands. */
+static enum exit_code patrol(struct stripe *array, FILE *file, char **words)
+{
+    struct irumbolai_patrol_begun begun =
+        irumbolai_patrol_begin(array->members, array->stripes, array->volume, array->method, array->row);
+    struct irumbolai_patrolled last = {.state = begun.state};
+    bool refused = false, found = false;
+
+    printf("patrol of %" PRIu64 " stripes, members %zu, volume %u, method %u, row length %u\n", array->stripes,
+           array->members, (unsigned)array->volume, (unsigned)array->method, (unsigned)array->row);
+    if (begun.refusal != 0) {
+        show_refusal(begun.refusal);
+        return REFUSED;
+    }
+    for (; *words != NULL; words++) {
+        if (!take_turn(*words, file, array, &last)) {
+            fprintf(stderr, "rig: %s is no turn, or its stripe cannot be read\n", *words);
+            return REFUSED;
+        }
+        printf("%s: ", *words);
+        if (strcmp(*words, "busy") == 0)
+            printf("nothing looked at\n");
+        else if (last.verdict.refusal != 0)
+            show_refusal(last.verdict.refusal);
+        else {
+            printf("stripe %" PRIu64, last.stripe);
+            show_verdict("", last.verdict);
+        }
+        refused = refused || last.verdict.refusal != 0;
+        found = found || last.verdict.kind != 0;
+    }
+    printf("next is stripe %" PRIu64 "\n", last.state.next);
+    return refused ? REFUSED : found ? FOUND : CLEAN;
+}
+
+static enum exit_code patrol_file(struct stripe *array, const char *path, char **words)
+{
+    FILE *file = fopen(path, "rb");
+    enum exit_code code;
+
+    if (file == NULL) {
+        fprintf(stderr, "rig: %s cannot be read\n", path);
+        return REFUSED;
+    }
+    code = patrol(array, file, words);
+    fclose(file);
+    return code;
+}
+
+static enum exit_code look_at_file(struct stripe *stripe, const char *path)
+{
+    enum exit_code code;
+
+    if (!read_stripe(path, stripe)) {
+        fprintf(stderr, "rig: %s cannot be read\n", path);
+        return REFUSED;
+    }
+    code = look_at(stripe);
+    free(stripe->bytes);
+    return code;
 }
 
 int main(int argc, char **argv)
 {
+    bool patrols = argc > 8 && strcmp(argv[1], "patrol") == 0;
     struct stripe stripe;
-    uint64_t members, volume, method, row;
     enum exit_code code;
 
-    if (argc != 8 || !read_number(argv[1], SIZE_MAX, &members) ||
-        !read_number(argv[2], UINT64_MAX, &stripe.stripes) || !read_number(argv[3], UINT8_MAX, &volume) ||
-        !read_number(argv[4], UINT8_MAX, &method) || !read_number(argv[5], UINT8_MAX, &row) ||
-        !read_number(argv[6], UINT64_MAX, &stripe.number)) {
-        fprintf(stderr, "usage: rig MEMBERS STRIPES VOLUME METHOD ROW STRIPE FILE\n");
+    if (!(patrols && read_array(argv + 2, &stripe)) &&
+        !(argc == 8 && read_array(argv + 1, &stripe) && read_number(argv[6], UINT64_MAX, &stripe.number))) {
+        fprintf(stderr, "usage: rig MEMBERS STRIPES VOLUME METHOD ROW STRIPE FILE\n"
+                        "       rig patrol MEMBERS STRIPES VOLUME METHOD ROW FILE TURN ..\n");
         return REFUSED;
     }
-    stripe.members = (size_t)members;
-    stripe.volume = (uint8_t)volume;
-    stripe.method = (uint8_t)method;
-    stripe.row = (uint8_t)row;
-    if (!read_stripe(argv[7], &stripe)) {
-        fprintf(stderr, "rig: %s cannot be read\n", argv[7]);
-        return REFUSED;
-    }
-
-    code = look_at(&stripe);
-    free(stripe.bytes);
+    code = patrols ? patrol_file(&stripe, argv[7], argv + 8) : look_at_file(&stripe, argv[7]);
     if (fflush(stdout) != 0 || ferror(stdout)) {
         fprintf(stderr, "rig: the lines cannot be written\n");
         return REFUSED;

@@ -753,6 +753,84 @@ static void registers()
     }
 }
 
+static void due_patrol(struct irumbolai_patrol state, Array array, uint64_t next)
+{
+    DUE(state.members, array.members);
+    DUE(state.stripes, array.stripes);
+    DUE(state.volume, array.volume);
+    DUE(state.method, array.method);
+    DUE(state.row, array.row);
+    DUE(state.next, next);
+}
+
+static struct irumbolai_patrol_begun begin(Array array)
+{
+    return irumbolai_patrol_begin(array.members, array.stripes, array.volume, array.method, array.row);
+}
+
+// A patrol of two stripes: round and round at idle turns; busy turns, requests and what is refused leave it where it stands.
+static void patrols()
+{
+    const Array two = {3, 2, 7, 1, 1};
+    const Bytes first = torn({0x01, 0x8B, 0xB6}, 0x8B, 0xB7), none = {0};
+    Bytes second(1560);
+    DUE(seal(two, 1, joined(ending({1}), ending({2})), second), 0);
+    second[3] ^= 1;
+    second[519] ^= 4;
+
+    struct irumbolai_patrol_begun begun = begin({3, 1, 7, 1, 2});
+    DUE(begun.refusal, 13);
+    due_patrol(begun.state, {0, 0, 0, 0, 0}, 0);
+    DUE(begin({2, 0, 7, 4, 3}).refusal, 1);
+    DUE(begin({3, 0, 7, 4, 3}).refusal, 2);
+    DUE(begin({3, 2, 7, 4, 3}).refusal, 12);
+    begun = begin(two);
+    DUE(begun.refusal, 0);
+    due_patrol(begun.state, two, 0);
+
+    struct irumbolai_patrol state = begun.state;
+    for (uint32_t idle : {1u, 256u, 0x80000000u, 0xFFFFFFFFu, 7u}) {
+        const uint64_t here = state.next, next = 1 - here;
+        struct irumbolai_patrolled seen = irumbolai_patrol_turn(state, 0, none.data(), 1);
+        due_verdict(seen.verdict, 0, 0, 0, 0);
+        DUE(seen.stripe, 0);
+        due_patrol(seen.state, two, here);
+        seen = irumbolai_patrol_turn(seen.state, idle, first.data(), 1559);
+        due_verdict(seen.verdict, 6, 0, 0, 0);
+        DUE(seen.stripe, 0);
+        due_patrol(seen.state, two, here);
+        seen = irumbolai_patrol_request(seen.state, 1, second.data(), second.size());
+        due_verdict(seen.verdict, 0, 1, 0, 1, "G-R");
+        DUE(seen.stripe, 1);
+        due_patrol(seen.state, two, here);
+        seen = irumbolai_patrol_turn(seen.state, idle, here == 0 ? first.data() : second.data(), 1560);
+        if (here == 0)
+            due_verdict(seen.verdict, 0, 2, 509, 0);
+        else
+            due_verdict(seen.verdict, 0, 1, 0, 1, "G-R");
+        DUE(seen.stripe, here);
+        due_patrol(seen.state, two, next);
+        state = seen.state;
+    }
+
+    const Bytes large_stripe = sealed_large();
+    const struct irumbolai_patrolled seen = irumbolai_patrol_turn(begin(large).state, 1, large_stripe.data(), large_stripe.size());
+    due_verdict(seen.verdict, 0, 0, 0, 0);
+    due_patrol(seen.state, large, 0);
+
+    // 3 goes before 4, by the number of stripes in the state, and 4 before 6
+    state.next = 2;
+    for (uint32_t idle : {0u, 1u})
+        due_verdict(irumbolai_patrol_turn(state, idle, none.data(), 1).verdict, 4, 0, 0, 0);
+    due_verdict(irumbolai_patrol_request(state, 1, none.data(), 1).verdict, 4, 0, 0, 0);
+    due_verdict(irumbolai_patrol_request(state, 2, none.data(), 1).verdict, 3, 0, 0, 0);
+    due_patrol(irumbolai_patrol_request(state, 2, none.data(), 1).state, two, 2);
+    due_patrol(irumbolai_patrol_turn(state, 1, first.data(), first.size()).state, two, 2);
+    state.next = 1;
+    due_verdict(irumbolai_patrol_request(state, 0xFFFFFFFFFFFFFFFF, first.data(), first.size()).verdict, 3, 0, 0, 0);
+    due_verdict(irumbolai_patrol_request(state, 1, first.data(), 1559).verdict, 6, 0, 0, 0);
+}
+
 // A stripe in pieces of at most seven bytes, each a buffer of its own, the last member first.
 static struct irumbolai_verdict scanned(const Bytes &stripe, Array array = three)
 {
@@ -786,6 +864,7 @@ int main()
     large_states();
     waiting();
     registers();
+    patrols();
     due_verdict(scanned(sealed()), 0, 0, 0, 0);
     due_verdict(scanned(torn({0x01, 0x8B, 0xB6}, 0x8B, 0xB7)), 0, 2, 509, 0);
     due_verdict(scanned(torn({0x01, 0x8B, 0xB6}, 0x8B, 0xB6)), 0, 1, 0, 1, "G--");

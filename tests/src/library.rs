@@ -2,6 +2,7 @@
 
 use crate::lent::Lent;
 use model::layout::Array;
+use model::patrol::Patrol;
 use model::scan::Scan;
 
 #[repr(C)]
@@ -60,6 +61,33 @@ pub struct Verdict {
     pub reference_fits: u32,
 }
 
+impl Verdict {
+    pub const ZEROS: Verdict = Verdict {
+        refusal: 0,
+        kind: 0,
+        first: 0,
+        count: 0,
+        guard_fits: 0,
+        application_fits: 0,
+        reference_fits: 0,
+    };
+}
+
+#[repr(C)]
+#[derive(Clone, Copy, Debug, PartialEq)]
+pub struct Begun {
+    pub refusal: u32,
+    pub state: Patrol,
+}
+
+#[repr(C)]
+#[derive(Clone, Copy, Debug, PartialEq)]
+pub struct Patrolled {
+    pub verdict: Verdict,
+    pub stripe: u64,
+    pub state: Patrol,
+}
+
 #[repr(C)]
 #[derive(Clone, Copy, Debug, PartialEq)]
 pub struct Quick {
@@ -89,7 +117,10 @@ pub struct Sum {
 }
 
 mod c {
-    use super::{Check, Guards, Owner, Place, Quick, Read, Scan, Sum, Taken, Verdict};
+    use super::{
+        Begun, Check, Guards, Owner, Patrol, Patrolled, Place, Quick, Read, Scan, Sum, Taken,
+        Verdict,
+    };
 
     #[rustfmt::skip]
     unsafe extern "C" {
@@ -114,6 +145,9 @@ mod c {
         pub fn irumbolai_start(members: usize, stripes: u64, volume: u8, method: u8, row: u8, stripe: u64, work: *mut u8, work_length: usize) -> Taken;
         pub fn irumbolai_piece(state: Scan, member: usize, bytes: *const u8, length: usize, work: *mut u8, work_length: usize) -> Taken;
         pub fn irumbolai_finish(state: Scan, work: *const u8, work_length: usize) -> Verdict;
+        pub fn irumbolai_patrol_begin(members: usize, stripes: u64, volume: u8, method: u8, row: u8) -> Begun;
+        pub fn irumbolai_patrol_turn(state: Patrol, idle: u32, bytes: *const u8, length: usize) -> Patrolled;
+        pub fn irumbolai_patrol_request(state: Patrol, stripe: u64, bytes: *const u8, length: usize) -> Patrolled;
     }
 }
 
@@ -122,8 +156,8 @@ mod c {
 
 /// A call on an array, whose numbers go first, one by one. No call is handed them elsewhere.
 macro_rules! on_array {
-    ($call:ident, $array:ident, $($rest:expr),+) => {
-        unsafe { c::$call($array.members, $array.stripes, $array.volume, $array.method, $array.row, $($rest),+) }
+    ($call:ident, $array:ident $(, $rest:expr)*) => {
+        unsafe { c::$call($array.members, $array.stripes, $array.volume, $array.method, $array.row $(, $rest)*) }
     };
 }
 
@@ -236,4 +270,16 @@ pub fn piece(state: Scan, member: usize, bytes: &Lent<u8>, work: &mut Lent<u8>) 
 
 pub fn finish(state: Scan, work: &Lent<u8>) -> Verdict {
     unsafe { c::irumbolai_finish(state, work.pointer(), work.length()) }
+}
+
+pub fn patrol_begin(array: &Array) -> Begun {
+    on_array!(irumbolai_patrol_begin, array)
+}
+
+pub fn patrol_turn(state: Patrol, idle: u32, bytes: &Lent<u8>) -> Patrolled {
+    unsafe { c::irumbolai_patrol_turn(state, idle, bytes.pointer(), bytes.length()) }
+}
+
+pub fn patrol_request(state: Patrol, stripe: u64, bytes: &Lent<u8>) -> Patrolled {
+    unsafe { c::irumbolai_patrol_request(state, stripe, bytes.pointer(), bytes.length()) }
 }

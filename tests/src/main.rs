@@ -28,6 +28,7 @@ const PARTS: &[(&str, Comparison)] = &[
     ("stripe", compare::stripe::compare),
     ("scrub", compare::scrub::compare),
     ("scan", compare::scan::compare),
+    ("patrol", compare::patrol::compare),
     ("standing", compare::standing::compare),
     ("faults", compare::faults::compare),
     ("write hole", compare::write_hole::compare),

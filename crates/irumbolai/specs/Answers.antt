@@ -1,6 +1,6 @@
 -- What C gets: the numbers of each call's answer in the fields of a struct. Assumes nothing.
 use Prim.Native.Nat.{ℕ, _-_, _/_, _%_}
-use mathlib.Core.Bool.{cond}
+use mathlib.Core.Bool.{Bool, not, cond}
 use mathlib.Core.List.{List, [], _∷_, _++_}
 use lib.Dec.{eqb}
 use lib.ListN.{getD, drop}
@@ -8,6 +8,7 @@ use Rattle.layout.specs.Arrays.{arrayOf}
 use Rattle.layout.specs.declared.Placed.{Placed}
 use Rattle.layout.specs.declared.Placed.the-variants.{Refused, At}
 use Rattle.scan.specs.declared.Scan.{Scan}
+use Rattle.patrol.specs.declared.Patrol.{Patrol}
 use Rattle.irumbolai.specs.declared.SumAnswer.{SumAnswer}
 use Rattle.irumbolai.specs.declared.PlaceAnswer.{PlaceAnswer}
 use Rattle.irumbolai.specs.declared.OwnerAnswer.{OwnerAnswer}
@@ -17,6 +18,7 @@ use Rattle.irumbolai.specs.declared.ReadAnswer.{ReadAnswer}
 use Rattle.irumbolai.specs.declared.VerdictAnswer.{VerdictAnswer}
 use Rattle.irumbolai.specs.declared.QuickAnswer.{QuickAnswer}
 use Rattle.irumbolai.specs.declared.ScanState.{ScanState}
+use Rattle.irumbolai.specs.declared.PatrolState.{PatrolState}
 
 -- the state of a scan that C holds: the array's numbers stand in it one by one
 abbrev pub scanOf : ScanState → Scan
@@ -29,6 +31,10 @@ scanOf s =
       waiting = s .waiting;
       tag = s .tag;
     }
+
+-- and of a patrol
+abbrev pub patrolOf : PatrolState → Patrol
+patrolOf s = record { array = arrayOf (s .members) (s .stripes) (s .volume) (s .method) (s .row); next = s .next }
 
 -- the numbers of an answer without the flag before them: in a struct, refusal 0 alone says that the call is done
 abbrev pub unflagged : List ℕ → List ℕ
@@ -43,6 +49,14 @@ spread l =
     let kind = getD l 1 0 in
     let faults = getD l 4 0 in
     getD l 0 0 ∷ kind ∷ getD l 2 0 ∷ getD l 3 0 ∷ fits kind (faults / 4 % 2) ∷ fits kind (faults / 2 % 2) ∷ fits kind (faults % 2) ∷ []
+
+-- the stripe in an answer of a patrol, 0 where none was looked at: behind the verdict's numbers and a flag
+abbrev pub stripeAnswered : List ℕ → ℕ
+stripeAnswered numbers = getD numbers 7 0
+
+-- a turn is idle by any number but 0
+abbrev pub isIdle : ℕ → Bool
+isIdle idle = not (eqb idle 0)
 
 -- the member in an answer of `place`, 0 where there is none
 abbrev pub memberAnswered : Placed → ℕ

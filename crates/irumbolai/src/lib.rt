@@ -1,5 +1,6 @@
 // The C library: each call of include/irumbolai.h. A slice is a pointer and a length to C.
 mod joins;
+mod patrols;
 mod places;
 mod scans;
 mod scrubs;
@@ -113,6 +114,32 @@ pub struct ScanState {
 pub struct TakenAnswer {
     pub refusal: u32,
     pub state: ScanState,
+}
+
+// The state of a patrol: the array's numbers, and the stripe that comes next.
+#[repr(C)]
+pub struct PatrolState {
+    pub members: usize,
+    pub stripes: u64,
+    pub volume: u8,
+    pub method: u8,
+    pub row: u8,
+    pub next: u64,
+}
+
+// How a patrol begins.
+#[repr(C)]
+pub struct PatrolBegunAnswer {
+    pub refusal: u32,
+    pub state: PatrolState,
+}
+
+// What a call of a patrol saw, and what it leaves.
+#[repr(C)]
+pub struct PatrolledAnswer {
+    pub verdict: VerdictAnswer,
+    pub stripe: u64,
+    pub state: PatrolState,
 }
 
 // The guard of a run of bytes of any length.

@@ -1,16 +1,13 @@
 -- Every list of calls has a run, from any state and any buffer: what is said of runs is said of every list of calls.
 -- Assumes nothing.
 use mathlib.Core.Path.{_≡_, refl, sym, ap}
-use mathlib.Core.Bool.{Bool}
 use mathlib.Core.List.{List, [], _∷_}
 use Prim.Native.Nat.{ℕ, zero, suc}
 use lib.ListN.{length}
-use Rattle.verdict.specs.declared.Verdict.{Verdict}
-use Rattle.verdict.specs.declared.Verdict.the-variants.{Clean, Bad, Torn, Unchecked}
 use Rattle.verdict.specs.declared.Scrubbed.{Scrubbed}
 use Rattle.verdict.specs.declared.Scrubbed.the-variants.{Refused, Found}
-use Rattle.verdict.specs.Verdicts.{judged, verdictNumbers, scrubbedNumbers}
-use Rattle.verdict.proofs.Verdicts.{Judged, of-bad, of-unchecked, of-torn, of-clean, judged-case}
+use Rattle.verdict.specs.Verdicts.{scrubbedNumbers}
+use Rattle.verdict.proofs.Occurring.{some-verdict}
 use Rattle.tag.specs.Blocks.{formatAt}
 use Rattle.stripe.specs.Verdicts.{standingMembers, tornPlaces}
 use Rattle.scan.specs.declared.Scan.{Scan}
@@ -19,19 +16,6 @@ use Rattle.scan.specs.History.{Call, piece, finish}
 use Rattle.scan.specs.Scans.{registersOf, heldSummary, pieceRefusal, pieceState, pieceWork, finishRefusal, finishNumbers}
 use Rattle.scan.specs.Runs.{Ran, ended, pieced, finished}
 use Rattle.scan.proofs.Refusals.{refused-verdict}
-
-record SomeVerdict (numbers : List ℕ) : Type 0 where
-  verdict : Verdict
-  same : verdictNumbers verdict ≡ numbers
-
-some-verdict : (members : List ℕ) (torn : List Bool) → SomeVerdict (judged members torn)
-some-verdict members torn = by-case (judged-case members torn)
-  where
-    by-case : {l : List ℕ} → Judged members torn l → SomeVerdict l
-    by-case (of-bad p) = record { verdict = Bad _ _ _; same = refl }
-    by-case (of-unchecked p q) = record { verdict = Unchecked _ _; same = refl }
-    by-case (of-torn p q r) = record { verdict = Torn _; same = refl }
-    by-case (of-clean p q r) = record { verdict = Clean; same = refl }
 
 record Answered (s : Scan) (w : List ℕ) : Type 0 where
   given : Scrubbed

@@ -1,6 +1,7 @@
 pub mod Flags
 pub mod Greatest
 pub mod Verdicts
+pub mod Occurring
 pub mod Behind
 pub mod Quick
 pub mod QuickWide

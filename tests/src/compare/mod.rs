@@ -12,6 +12,7 @@ pub mod large;
 pub mod layout;
 pub mod life;
 pub mod md;
+pub mod patrol;
 mod runs;
 pub mod scan;
 pub mod scrub;

@@ -6,6 +6,7 @@ pub mod format;
 pub mod guard;
 pub mod join;
 pub mod layout;
+pub mod patrol;
 pub mod report;
 pub mod scan;
 pub mod stripe;

@@ -1,0 +1,4 @@
+pub mod Patrols
+pub mod Rows
+pub mod Runs
+pub mod EveryStripe
