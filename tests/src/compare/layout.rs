@@ -120,6 +120,7 @@ fn edges(array: &Array, tally: &mut Tally) -> Outcome<()> {
         members,
         members.wrapping_mul(row),
         65_536,
+        1 << 32,
         end / 2,
         end,
         end.wrapping_add(1 << 32),
