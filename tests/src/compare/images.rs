@@ -17,7 +17,7 @@ use std::time::Duration;
 const MEMBERS: [usize; 3] = [3, 5, 16];
 /// How many images have a random header, and how many random stripes.
 const HEADERS: usize = 800;
-const IMAGES: usize = 450;
+const IMAGES: usize = 600;
 /// How many stripes an image of torn ones has.
 const TORN: usize = 512;
 
@@ -394,7 +394,7 @@ fn ends(
         stripes: 4,
         volume: random.next() as u8,
         method,
-        row: if version == 3 { 2 } else { 1 },
+        row: if version >= 3 { 2 } else { 1 },
     };
     let length = array.stripe_length();
     let mut image = report::header_of(version, &array);
