@@ -103,7 +103,10 @@
  *    7  a piece is longer than what its member still lacks of a block
  *    8  a member has not given all its B bytes
  *    9  the blocks that the call needs are not all good: one is bad or unchecked; or, in method 2, their guards do not
- *       combine to that of the rebuilt data
+ *       combine to that of the rebuilt data; or, of an update, the stripe's guards tell that it is torn
+ *   14  no entry of the record is free
+ *   15  the stripe is entered in the record already
+ *   16  the record names a stripe that the array has not, or one twice; tested before 14, and all three before 9
  */
 #ifndef IRUMBOLAI_H
 #define IRUMBOLAI_H
@@ -300,6 +303,55 @@ uint32_t irumbolai_rebuild(size_t members, uint64_t stripes, uint8_t volume, uin
  */
 uint32_t irumbolai_update(size_t members, uint64_t stripes, uint8_t volume, uint8_t method, uint8_t row, uint64_t block,
                           const uint8_t *data, size_t data_length, uint8_t *bytes, size_t length);
+
+/*
+ * The same update, with its stripe entered in a record while it is open, so that a loss of power in the middle can be
+ * recovered from. It goes in four stores, in this order:
+ *
+ *   1  the stripe is entered in the record, in the lowest free entry
+ *   2  the block is written
+ *   3  the block of the parity is written
+ *   4  the entry is struck out
+ *
+ * `stores` tells after how many of them to stop; four or more are all. With 0 all tests are made and nothing is stored.
+ * The record is 64 entries of eight bytes, the highest byte first: 0 is a free entry, any other number a stripe plus
+ * one. 512 bytes of zero are an empty record. It belongs to one array. A struck entry is used again.
+ *
+ * Each store must be on the drives, whole, before the next one begins: README.md, "When the power goes", tells how to
+ * drive the four stores with this call. Other refusals than of irumbolai_update come before 9. Gives the refusal.
+ *
+ *   lent      data: D bytes, read; bytes: the stripe, n x B bytes, as for irumbolai_update; record: 512 bytes, read, of
+ *             which the eight of one entry are written
+ *   refusals  1, 2, 12, 13, 3, 6, 16, 14, 15, 9
+ */
+uint32_t irumbolai_update_recorded(size_t members, uint64_t stripes, uint8_t volume, uint8_t method, uint8_t row,
+                                   uint64_t block, const uint8_t *data, size_t data_length, uint8_t *bytes,
+                                   size_t length, uint8_t *record, size_t record_length, size_t stores);
+
+/*
+ * Recovers a stripe after a loss of power. `kind` is
+ *
+ *   0  not entered: the record does not name the stripe; nothing is changed
+ *   1  recovered: the parity and its tag were made from the data members, whatever stood there, and the entry struck out
+ *   2  left: a data member is bad or unchecked, the lowest such is `member`; nothing is changed, and the stripe stays
+ *      entered. Rebuild or write that block, then recover
+ *
+ * Where the stripe was clean before its update was entered, and no data block was changed since, it is clean
+ * afterwards; the block of the update reads as before if its store was not made, else as new, and every other block
+ * reads as before. On the drives the parity must be written before the record.
+ *
+ *   lent      bytes: the stripe, n x B bytes, read, of which the B of the parity are written; record: 512 bytes, read,
+ *             of which the eight of one entry are written
+ *   refusals  1, 2, 12, 13, 3, 6, 16
+ */
+struct irumbolai_recovery {
+    uint32_t refusal;
+    uint32_t kind;
+    uint32_t member;
+};
+struct irumbolai_recovery irumbolai_recover(size_t members, uint64_t stripes, uint8_t volume, uint8_t method,
+                                            uint8_t row, uint64_t stripe, uint8_t *bytes, size_t length,
+                                            uint8_t *record, size_t record_length);
 
 /*
  * The full scrub of a stripe. `kind` is the first of these that fits, in this order:

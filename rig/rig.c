@@ -18,7 +18,7 @@
 enum { CRC = 1, CHECKSUM = 2, LARGE = 3 };
 
 /* The most that there is of each, in every method. */
-enum { MOST_MEMBERS = 16, MOST_DATA = 4096, MOST_BLOCK = 4112 };
+enum { MOST_MEMBERS = 16, MOST_DATA = 4096, MOST_BLOCK = 4112, RECORD_BYTES = 512 };
 
 enum exit_code { CLEAN = 0, FOUND = 1, REFUSED = 2 };
 
@@ -67,6 +67,9 @@ static const char *in_words(uint32_t refusal)
         [9] = "the blocks that are needed are not all good, or do not belong together",
         [12] = "the method is not 1 to 3",
         [13] = "the row length is not 1, 2, 4 up to 128, or does not divide the stripes",
+        [14] = "no entry of the record is free",
+        [15] = "the stripe is entered in the record already",
+        [16] = "the record names a stripe that the array has not, or one twice",
     };
     bool known = refusal < sizeof words / sizeof words[0] && words[refusal] != NULL;
 
@@ -132,6 +135,26 @@ static struct irumbolai_verdict scrub(const struct stripe *stripe)
 {
     return irumbolai_scrub(stripe->members, stripe->stripes, stripe->volume, stripe->method, stripe->row,
                            stripe->number, stripe->bytes, stripe->length);
+}
+
+static struct irumbolai_read read_block(const struct stripe *stripe, uint64_t block, uint8_t *out)
+{
+    return irumbolai_read(stripe->members, stripe->stripes, stripe->volume, stripe->method, stripe->row, block,
+                          stripe->bytes, stripe->length, out, data_bytes(stripe));
+}
+
+static uint32_t update_recorded(struct stripe *stripe, uint64_t block, const uint8_t *data, uint8_t *record,
+                                size_t stores)
+{
+    return irumbolai_update_recorded(stripe->members, stripe->stripes, stripe->volume, stripe->method, stripe->row,
+                                     block, data, data_bytes(stripe), stripe->bytes, stripe->length, record,
+                                     RECORD_BYTES, stores);
+}
+
+static struct irumbolai_recovery recover(struct stripe *stripe, uint8_t *record)
+{
+    return irumbolai_recover(stripe->members, stripe->stripes, stripe->volume, stripe->method, stripe->row,
+                             stripe->number, stripe->bytes, stripe->length, record, RECORD_BYTES);
 }
 
 static struct irumbolai_taken start_scan(const struct stripe *stripe, uint8_t *work, size_t work_length)
@@ -272,6 +295,51 @@ static bool read_number(const char *text, uint64_t most, uint64_t *number)
     return errno == 0 && *end == '\0' && *number <= most;
 }
 
+/*
+ * The power goes after some of the four stores of an update, played on a copy of a clean stripe with an empty record:
+ * the lowest block gets other data, every bit of it turned. Then the stripe is recovered, and the block read. Says
+ * whether all is as it should be.
+ */
+static bool show_cut(const struct stripe *stripe, size_t stores)
+{
+    static const char *const kinds[] = {"not entered", "recovered", "left"};
+    uint8_t record[RECORD_BYTES] = {0}, old[MOST_DATA], new[MOST_DATA], out[MOST_DATA];
+    size_t length = data_bytes(stripe);
+    struct stripe copy = *stripe;
+    /* Member 0 holds the lowest block, or the parity, which is named by it. */
+    uint64_t block = owner_of(stripe, 0).block;
+
+    copy.bytes = malloc(copy.length);
+    if (copy.bytes == NULL)
+        return false;
+    memcpy(copy.bytes, stripe->bytes, copy.length);
+    uint32_t refusal = read_block(&copy, block, old).refusal;
+    for (size_t at = 0; at < length; at++)
+        new[at] = (uint8_t)~old[at];
+    if (refusal == 0)
+        refusal = update_recorded(&copy, block, new, record, stores);
+
+    /* Here the power goes. What is on the drives is the copy and the record. */
+    struct irumbolai_recovery recovery = recover(&copy, record);
+    if (refusal == 0)
+        refusal = recovery.refusal;
+    if (refusal == 0)
+        refusal = read_block(&copy, block, out).refusal;
+    printf("power cut after %zu stores: ", stores);
+    if (refusal != 0) {
+        show_refusal(refusal);
+        free(copy.bytes);
+        return false;
+    }
+    bool is_new = memcmp(out, new, length) == 0, is_old = memcmp(out, old, length) == 0;
+    struct irumbolai_verdict verdict = scrub(&copy);
+    printf("%s, block %" PRIu64 " reads as %s, ", kinds[recovery.kind], block,
+           is_new ? "new" : is_old ? "before" : "NEITHER");
+    printf("%s\n", verdict.refusal == 0 && verdict.kind == 0 ? "clean" : "NOT CLEAN");
+    free(copy.bytes);
+    return (is_new || is_old) && verdict.refusal == 0 && verdict.kind == 0;
+}
+
 /* Asks the library everything about a stripe. */
 static enum exit_code look_at(const struct stripe *stripe)
 {
@@ -300,7 +368,10 @@ static enum exit_code look_at(const struct stripe *stripe)
 
     bool agree = same(whole, halves) && same(whole, singles);
     printf("the three verdicts %s\n", agree ? "agree" : "DIFFER");
-    return agree && whole.kind == 0 && quick.differs == 0 ? CLEAN : FOUND;
+    bool clean = agree && whole.kind == 0 && quick.differs == 0;
+    for (size_t stores = 0; clean && stores <= 4; stores++)
+        clean = show_cut(stripe, stores);
+    return clean ? CLEAN : FOUND;
 }
 
 /*

@@ -67,6 +67,19 @@ static uint32_t update(Array array, uint64_t block, const Bytes &data, Bytes &by
     return irumbolai_update(array.members, array.stripes, array.volume, array.method, array.row, block, data.data(), data.size(), bytes.data(), bytes.size());
 }
 
+static uint32_t update_recorded(Array array, uint64_t block, const Bytes &data, Bytes &bytes, Bytes &record, size_t stores)
+{
+    return irumbolai_update_recorded(array.members, array.stripes, array.volume, array.method, array.row, block, data.data(), data.size(), bytes.data(), bytes.size(), record.data(), record.size(), stores);
+}
+
+static void due_recovery(Array array, uint64_t stripe, Bytes &bytes, Bytes &record, uint32_t refusal, uint32_t kind, uint32_t member)
+{
+    struct irumbolai_recovery recovery = irumbolai_recover(array.members, array.stripes, array.volume, array.method, array.row, stripe, bytes.data(), bytes.size(), record.data(), record.size());
+    DUE(recovery.refusal, refusal);
+    DUE(recovery.kind, kind);
+    DUE(recovery.member, member);
+}
+
 static struct irumbolai_verdict scrub(Array array, uint64_t stripe, const Bytes &bytes)
 {
     return irumbolai_scrub(array.members, array.stripes, array.volume, array.method, array.row, stripe, bytes.data(), bytes.size());
@@ -584,6 +597,52 @@ static void scrubs()
     DUE(irumbolai_quick_scrub(guards.data(), 2).refusal, 1);
 }
 
+// The power goes after each number of stores, the parity is lost where the stripe is entered, and it is recovered.
+static void records()
+{
+    const Bytes zeros(512), none(512);
+    for (size_t stores = 0; stores <= 5; stores++) {
+        Bytes stripe = sealed(), record(512), out(512, 0xFF);
+        DUE(update_recorded(three, 0, zeros, stripe, record, stores), 0);
+        const bool open = stores >= 1 && stores <= 3;
+        DUE(record[7], open);
+        DUE((stripe == sealed()), stores < 2);
+        if (open) {
+            DUE(update_recorded(three, 1, zeros, stripe, record, 4), 15);
+            std::fill(stripe.begin(), stripe.begin() + 520, 0xA5);
+        }
+        due_recovery(three, 0, stripe, record, 0, open, 0);
+        DUE(record == none, true);
+        due_verdict(scrub(three, 0, stripe), 0, 0, 0, 0);
+        DUE(read_block(three, 0, stripe, out).kind, 0);
+        DUE(out == (stores < 2 ? ending({1}) : zeros), true);
+        DUE(read_block(three, 1, stripe, out).kind, 0);
+        DUE(out == ending({2}), true);
+    }
+    Bytes stripe = sealed(), record(512), small(511);
+    DUE(update_recorded(three, 0, zeros, stripe, small, 4), 6);
+    record[7] = 2;
+    DUE(update_recorded(three, 0, zeros, stripe, record, 4), 16);
+    due_recovery(three, 0, stripe, record, 16, 0, 0);
+    due_recovery(three, 1, stripe, record, 3, 0, 0);
+    DUE(stripe == sealed(), true);
+    const Array many = {3, 65, 7, 1, 1};
+    for (int i = 0; i < 64; i++)
+        record[8 * i + 7] = i + 1;
+    DUE(update_recorded(many, 0, zeros, stripe, record, 4), 14);
+    record[8 * 63 + 7] = 0;
+    DUE(update_recorded(many, 0, zeros, stripe, record, 4), 15);
+    record[8 * 63 + 7] = 1;
+    DUE(update_recorded(many, 0, zeros, stripe, record, 4), 16);
+    record = none;
+    record[7] = 1;
+    stripe[2 * 520] ^= 1;
+    due_recovery(three, 0, stripe, record, 0, 2, 2);
+    stripe[520 + 514] = stripe[520 + 515] = 0xFF;
+    due_recovery(three, 0, stripe, record, 0, 2, 1);
+    DUE(record[7], 1);
+}
+
 static void due_wide(const std::vector<uint32_t> &guards, uint32_t refusal, uint32_t differs, uint32_t combination)
 {
     struct irumbolai_quick quick = irumbolai_quick_scrub_wide(guards.data(), guards.size());
@@ -859,6 +918,7 @@ int main()
     large_jobs();
     unchecked();
     scrubs();
+    records();
     wide_scrubs();
     states();
     large_states();

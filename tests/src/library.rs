@@ -98,6 +98,14 @@ pub struct Quick {
 
 #[repr(C)]
 #[derive(Clone, Copy, Debug, PartialEq)]
+pub struct Recovery {
+    pub refusal: u32,
+    pub kind: u32,
+    pub member: u32,
+}
+
+#[repr(C)]
+#[derive(Clone, Copy, Debug, PartialEq)]
 pub struct Taken {
     pub refusal: u32,
     pub state: Scan,
@@ -118,8 +126,8 @@ pub struct Sum {
 
 mod c {
     use super::{
-        Begun, Check, Guards, Owner, Patrol, Patrolled, Place, Quick, Read, Scan, Sum, Taken,
-        Verdict,
+        Begun, Check, Guards, Owner, Patrol, Patrolled, Place, Quick, Read, Recovery, Scan, Sum,
+        Taken, Verdict,
     };
 
     #[rustfmt::skip]
@@ -139,6 +147,8 @@ mod c {
         pub fn irumbolai_read(members: usize, stripes: u64, volume: u8, method: u8, row: u8, block: u64, bytes: *const u8, length: usize, out: *mut u8, out_length: usize) -> Read;
         pub fn irumbolai_rebuild(members: usize, stripes: u64, volume: u8, method: u8, row: u8, stripe: u64, member: usize, bytes: *mut u8, length: usize) -> u32;
         pub fn irumbolai_update(members: usize, stripes: u64, volume: u8, method: u8, row: u8, block: u64, data: *const u8, data_length: usize, bytes: *mut u8, length: usize) -> u32;
+        pub fn irumbolai_update_recorded(members: usize, stripes: u64, volume: u8, method: u8, row: u8, block: u64, data: *const u8, data_length: usize, bytes: *mut u8, length: usize, record: *mut u8, record_length: usize, stores: usize) -> u32;
+        pub fn irumbolai_recover(members: usize, stripes: u64, volume: u8, method: u8, row: u8, stripe: u64, bytes: *mut u8, length: usize, record: *mut u8, record_length: usize) -> Recovery;
         pub fn irumbolai_scrub(members: usize, stripes: u64, volume: u8, method: u8, row: u8, stripe: u64, bytes: *const u8, length: usize) -> Verdict;
         pub fn irumbolai_quick_scrub(guards: *const u16, count: usize) -> Quick;
         pub fn irumbolai_quick_scrub_wide(guards: *const u32, count: usize) -> Quick;
@@ -237,6 +247,50 @@ pub fn update(array: &Array, block: u64, data: &Lent<u8>, bytes: &mut Lent<u8>) 
     let (from, length) = (data.pointer(), data.length());
     let (to, to_length) = (bytes.pointer_mut(), bytes.length());
     on_array!(irumbolai_update, array, block, from, length, to, to_length)
+}
+
+pub fn update_recorded(
+    array: &Array,
+    block: u64,
+    data: &Lent<u8>,
+    bytes: &mut Lent<u8>,
+    record: &mut Lent<u8>,
+    stores: usize,
+) -> u32 {
+    let (from, length) = (data.pointer(), data.length());
+    let (to, to_length) = (bytes.pointer_mut(), bytes.length());
+    let (log, log_length) = (record.pointer_mut(), record.length());
+    on_array!(
+        irumbolai_update_recorded,
+        array,
+        block,
+        from,
+        length,
+        to,
+        to_length,
+        log,
+        log_length,
+        stores
+    )
+}
+
+pub fn recover(
+    array: &Array,
+    stripe: u64,
+    bytes: &mut Lent<u8>,
+    record: &mut Lent<u8>,
+) -> Recovery {
+    let (to, to_length) = (bytes.pointer_mut(), bytes.length());
+    let (log, log_length) = (record.pointer_mut(), record.length());
+    on_array!(
+        irumbolai_recover,
+        array,
+        stripe,
+        to,
+        to_length,
+        log,
+        log_length
+    )
 }
 
 pub fn rebuild(array: &Array, stripe: u64, member: usize, bytes: &mut Lent<u8>) -> u32 {

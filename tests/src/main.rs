@@ -34,6 +34,7 @@ const PARTS: &[(&str, Comparison)] = &[
     ("write hole", compare::write_hole::compare),
     ("torn", compare::torn::compare),
     ("life", compare::life::compare),
+    ("intent", compare::intent::compare),
     ("images", compare::images::compare),
     ("large image", compare::large::compare),
 ];

@@ -15,6 +15,7 @@ use Rattle.irumbolai.specs.declared.OwnerAnswer.{OwnerAnswer}
 use Rattle.irumbolai.specs.declared.FieldAnswer.{FieldAnswer}
 use Rattle.irumbolai.specs.declared.CheckAnswer.{CheckAnswer}
 use Rattle.irumbolai.specs.declared.ReadAnswer.{ReadAnswer}
+use Rattle.irumbolai.specs.declared.RecoveryAnswer.{RecoveryAnswer}
 use Rattle.irumbolai.specs.declared.VerdictAnswer.{VerdictAnswer}
 use Rattle.irumbolai.specs.declared.QuickAnswer.{QuickAnswer}
 use Rattle.irumbolai.specs.declared.ScanState.{ScanState}
@@ -78,6 +79,9 @@ fieldNumbers f = f .found ∷ f .expected ∷ f .fits ∷ []
 
 abbrev pub checkFields : CheckAnswer → List ℕ
 checkFields r = r .refusal ∷ r .kind ∷ fieldNumbers (r .guard) ++ fieldNumbers (r .application) ++ fieldNumbers (r .reference)
+
+abbrev pub recoveryFields : RecoveryAnswer → List ℕ
+recoveryFields r = r .refusal ∷ r .kind ∷ r .member ∷ []
 
 abbrev pub readFields : ReadAnswer → List ℕ
 readFields r = r .refusal ∷ r .kind ∷ []

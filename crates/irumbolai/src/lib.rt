@@ -2,6 +2,7 @@
 mod joins;
 mod patrols;
 mod places;
+mod records;
 mod scans;
 mod scrubs;
 mod stripes;
@@ -71,6 +72,14 @@ pub struct CheckAnswer {
 pub struct ReadAnswer {
     pub refusal: u32,
     pub kind: u32,
+}
+
+// What a recovery says: kind 0 not entered, 1 recovered, 2 left, with the lowest data member that is bad or unchecked.
+#[repr(C)]
+pub struct RecoveryAnswer {
+    pub refusal: u32,
+    pub kind: u32,
+    pub member: u32,
 }
 
 // What a scrub says: kind 0 clean, 1 bad (the lowest bad member, their count, and which of its fields fit), 2 torn (the first place),

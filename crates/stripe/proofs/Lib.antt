@@ -32,6 +32,7 @@ pub mod Torn
 pub mod UpdateTorn
 pub mod Clean
 pub mod RebuildSealed
+pub mod InParts
 pub mod RebuildClean
 pub mod Cure
 pub mod WriteHole

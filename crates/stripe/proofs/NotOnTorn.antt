@@ -4,34 +4,30 @@
 use mathlib.Core.Path.{_≡_, refl, sym, ap, _∙_}
 use mathlib.Core.Logic.{_≢_, _↔_}
 use mathlib.Core.Bool.{Bool, true, false, not, _&&_}
-use mathlib.Core.List.{List, [], _∷_, map}
-use Prim.Native.Nat.{ℕ, zero, suc, _<_}
+use mathlib.Core.List.{List, [], _∷_}
+use Prim.Native.Nat.{ℕ}
 use native.Mathlib.Omega.{arith}
-use borrow.Author.Tests.{eqb-true, eq-eqb, ne-eqb}
+use borrow.Author.Tests.{eqb-true, eq-eqb}
 use lib.Dec.{eqb}
-use lib.ListN.{length, getD, replicate}
-use Rattle.xor.specs.Xors.{combination}
-use Rattle.crc.specs.Crc.{Bytes, Within}
+use lib.ListN.{length, getD}
 use Rattle.layout.specs.Answers.{refuse, after}
 use Rattle.layout.specs.Arrays.{blockRefusal}
 use Rattle.layout.specs.Places.{parityMember, stripeOf, memberOf}
 use Rattle.layout.specs.Ranges.{Sound}
 use Rattle.layout.specs.declared.Array.{Array}
 use Rattle.layout.proofs.Bijection.{place-refusal}
-use Rattle.layout.proofs.Ranges.{block-sound, place-sound}
+use Rattle.layout.proofs.Ranges.{place-sound}
 use Rattle.format.specs.Formats.{settled}
-use Rattle.tag.specs.Blocks.{formatAt, dataOf}
+use Rattle.tag.specs.Blocks.{formatAt}
 use Rattle.tag.specs.Tags.{good}
 use Rattle.verdict.specs.Verdicts.{saysClean, combinedGuards, quickRefusal}
 use Rattle.verdict.proofs.Quick.{sound-quick, compared-fits, compared-differs}
-use Rattle.stripe.specs.Tables.{table}
-use Rattle.stripe.specs.Stripes.{stripeLength, blockOf, memberData, storedGuard, storedGuards, Settled}
-use Rattle.stripe.specs.Jobs.{unlessRefused, storedGood, guardsAgree, replaceRefusal, replaced, updateRefusal, updateBytes}
-use Rattle.stripe.specs.Verdicts.{scrubNumbers, scrubRefusal, clean, quickOf}
+use Rattle.stripe.specs.Stripes.{stripeLength, blockOf, storedGuard, storedGuards}
+use Rattle.stripe.specs.Jobs.{unlessRefused, storedGood, guardsAgree, replaced, updateRefusal, updateBytes}
+use Rattle.stripe.specs.Verdicts.{scrubNumbers, clean, quickOf}
 use Rattle.stripe.proofs.Tables.{length-table}
-use Rattle.stripe.proofs.Scrubs.{scrub-sound, scrub-clean}
+use Rattle.stripe.proofs.Scrubs.{scrub-clean}
 use Rattle.stripe.proofs.ScrubTaken.{scrub-taken}
-use Rattle.stripe.proofs.Carried.{left-carried}
 use Rattle.stripe.proofs.CombinedGuards.{clean-agrees}
 use Rattle.stripe.proofs.Updates.{parity-sound, replaceable, replace-never, replace-taken}
 use Rattle.stripe.proofs.Updated.{refusals, as-replaced}

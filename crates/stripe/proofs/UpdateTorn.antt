@@ -1,7 +1,7 @@
 -- A torn stripe and its updates. Where the guards are those of the data, one torn within as many successive bits as a guard reaches over is
 -- never updated; where the parity carries them, one whose guards are not settled is not. The two torn stripes of the bench figures show where
 -- this ends: guards tell of one of them, and the other is still updated. Assumes nothing.
-use mathlib.Core.Path.{_≡_, refl, sym, ap, ap₂, _∙_, subst}
+use mathlib.Core.Path.{_≡_, refl, sym, ap, _∙_, subst}
 use mathlib.Core.Logic.{_≢_}
 use mathlib.Core.Bool.{Bool, true, false}
 use mathlib.Core.List.{List, [], _∷_, map}
@@ -14,19 +14,18 @@ use Rattle.xor.specs.Xors.{combination}
 use Rattle.crc.specs.Crc.{Bytes, Within}
 use Rattle.crc.specs.Guard.{guard}
 use Rattle.layout.specs.Arrays.{arrayRefusal, blockRefusal}
-use Rattle.layout.specs.Places.{parityMember, stripeOf, indexOf, memberAt, memberOf}
+use Rattle.layout.specs.Places.{parityMember, stripeOf, indexOf, memberAt}
 use Rattle.layout.specs.declared.Array.{Array}
 use Rattle.layout.proofs.Ranges.{stripe-sound}
 use Rattle.format.specs.Formats.{settled}
-use Rattle.format.specs.Methods.{formatOf}
 use Rattle.format.proofs.Laws.{settled-first}
 use Rattle.format.proofs.Combined.{settled-carried}
 use Rattle.tag.specs.Blocks.{formatAt, dataOf}
 use Rattle.tag.specs.Tags.{good}
 use Rattle.tag.proofs.Numbers.{bytes-of-part, bytes-of-rest}
-use Rattle.verdict.specs.Verdicts.{saysTorn, saysClean, combinedGuards}
+use Rattle.verdict.specs.Verdicts.{saysTorn, combinedGuards}
 use Rattle.stripe.specs.Tables.{table, span, joined}
-use Rattle.stripe.specs.Stripes.{stripeLength, blockOf, memberData, storedGuard, storedGuards, Whole}
+use Rattle.stripe.specs.Stripes.{blockOf, memberData, storedGuard, storedGuards, Whole}
 use Rattle.stripe.specs.Jobs.{guardsAgree, updateRefusal}
 use Rattle.stripe.specs.Verdicts.{scrubBlocks, scrubNumbers, scrubRefusal, quickOf}
 use Rattle.stripe.proofs.Tables.{length-table, getD-table, table-ext, map-table}

@@ -10,10 +10,10 @@ use Rattle.layout.specs.Places.{indexAt, isParity, ownerRefusal}
 use Rattle.layout.specs.declared.Array.{Array}
 use Rattle.format.specs.Formats.{guard}
 use Rattle.tag.specs.Blocks.{formatAt}
-use Rattle.tag.specs.Tags.{standingAt, tagged}
+use Rattle.tag.specs.Tags.{standingAt, taggedBy, tagged}
 use Rattle.stripe.specs.Tables.{table, joined, part}
 use Rattle.stripe.specs.Stripes.{stripeLength, blockOf, othersGood, othersData, guardsFit}
-use Rattle.stripe.specs.Jobs.{guardOfParts}
+use Rattle.stripe.specs.Jobs.{withBlock, guardOfParts, replaced}
 
 -- a data member's block, from its part of the data
 abbrev pub dataBlock : Array → ℕ → List ℕ → ℕ → List ℕ
@@ -37,3 +37,10 @@ sourcesRefusal a stripe member bytes =
 -- what the others' data combine to may be taken for what a member lost
 abbrev pub fitting : Array → ℕ → ℕ → List ℕ → Bool
 fitting a stripe member bytes = guardsFit a stripe member bytes (guard (formatAt a) (othersData (formatAt a) (a .members) member bytes))
+
+-- the block at a place with new data, by itself; and the stripe after the first so many of the two stores of a replacement there
+abbrev pub ownWritten : Array → ℕ → ℕ → List ℕ → List ℕ → List ℕ
+ownWritten a stripe member new bytes = withBlock (formatAt a) bytes member (taggedBy a stripe member (guard (formatAt a) new) new)
+
+unfoldable pub replacedInPart : Array → ℕ → ℕ → List ℕ → List ℕ → ℕ → List ℕ
+replacedInPart a stripe member new bytes stores = cond (eqb stores 0) bytes (cond (eqb stores 1) (ownWritten a stripe member new bytes) (replaced a stripe member new bytes))

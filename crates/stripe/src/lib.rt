@@ -2,14 +2,18 @@
 mod rebuilding;
 mod scrubbing;
 mod sealing;
+mod searching;
 mod serving;
 mod updating;
 
 pub use rebuilding::rebuild;
 pub use scrubbing::scrub;
+pub use scrubbing::scrub_refusal;
 pub use sealing::seal;
+pub use searching::first_amiss;
 pub use serving::read;
 pub use updating::update;
+pub use updating::update_in_part;
 ghost use mathlib.Core.Path.{_≡_};
 ghost use Prim.Native.Nat.{_+_, _-_, _*_, _≤_, _<_};
 ghost use mathlib.Core.Bool.{true};

@@ -32,7 +32,7 @@ fn standings(array: Array, stripe: u64, bytes: &[u8]) -> [u8; 16]
 }
 
 // The refusal number of a scrub: the stripe's own, then 6 where the stripe in memory has another length.
-fn scrub_refusal(array: Array, stripe: u64, length: usize) -> u8
+pub fn scrub_refusal(array: Array, stripe: u64, length: usize) -> u8
     ensures { λ r. ⌜ r ≡ scrubRefusal array stripe length ⌝ }
 {
     let members = array.members;

@@ -10,6 +10,8 @@ ghost use mathlib.Core.Bool.{false};
 ghost use lib.Bits.{bitXor};
 ghost use Rattle.stripe.specs.Stripes.{stripeLength, blockOf, storedGuard};
 ghost use Rattle.stripe.specs.Jobs.{guardsAgree, replaceRefusal, replaced, unlessRefused, updateRefusal, updateBytes};
+ghost use Rattle.stripe.specs.InPart.{partBytes};
+ghost use Rattle.stripe.specs.Steps.{ownWritten, replacedInPart};
 ghost use Rattle.format.specs.Formats.{pieceLength};
 ghost use Rattle.format.specs.Methods.{formatOf};
 ghost use Rattle.tag.specs.Blocks.{dataOf};
@@ -146,5 +148,64 @@ pub fn update(array: Array, block: u64, content: &[u8], bytes: &mut [u8]) -> u8
     match placed {
         Placed::Refused(number) => number,
         Placed::At { stripe, member } => replace(array, stripe, member, content, bytes),
+    }
+}
+
+// The first of an update's two stores alone: the block with the new data.
+fn replace_own(array: Array, stripe: u64, member: usize, content: &[u8], bytes: &mut [u8]) -> u8
+    requires { ⌜ ownerRefusal array stripe member ≡ 0 ⌝ }
+    ensures { λ r. ⌜ r ≡ replaceRefusal array stripe member (length (now (content .entry))) (now (bytes .entry)) ⌝ }
+    ensures { λ _. ⌜ now (bytes .exit) ≡ unlessRefused (replaceRefusal array stripe member (length (now (content .entry))) (now (bytes .entry))) (ownWritten array stripe member (now (content .entry)) (now (bytes .entry))) (now (bytes .entry)) ⌝ }
+{
+    let refusal = replace_refusal(array, stripe, member, content.len(), bytes);
+    if refusal != 0 {
+        return refusal;
+    }
+    let seat = layout::seat_of(array, stripe);
+    let data_guard = format::guard(array.method, content) as u64;
+    write_block(array, stripe, seat, member, content, data_guard, bytes);
+    0
+}
+
+// Replaces the data of the block at a place as far as so many of the two stores go.
+fn replace_in_part(
+    array: Array,
+    stripe: u64,
+    member: usize,
+    content: &[u8],
+    bytes: &mut [u8],
+    stores: usize,
+) -> u8
+    requires { ⌜ ownerRefusal array stripe member ≡ 0 ⌝ }
+    requires { ⌜ isParity array stripe member ≡ false ⌝ }
+    ensures { λ r. ⌜ r ≡ replaceRefusal array stripe member (length (now (content .entry))) (now (bytes .entry)) ⌝ }
+    ensures { λ _. ⌜ now (bytes .exit) ≡ unlessRefused (replaceRefusal array stripe member (length (now (content .entry))) (now (bytes .entry))) (replacedInPart array stripe member (now (content .entry)) (now (bytes .entry)) stores) (now (bytes .entry)) ⌝ }
+{
+    if stores == 0 {
+        return replace_refusal(array, stripe, member, content.len(), bytes);
+    }
+    if stores == 1 {
+        return replace_own(array, stripe, member, content, bytes);
+    }
+    replace(array, stripe, member, content, bytes)
+}
+
+// An update cut after so many of its two stores, the block and then the parity; two or more are the whole update.
+pub fn update_in_part(
+    array: Array,
+    block: u64,
+    content: &[u8],
+    bytes: &mut [u8],
+    stores: usize,
+) -> u8
+    ensures { λ r. ⌜ r ≡ updateRefusal array block (length (now (content .entry))) (now (bytes .entry)) ⌝ }
+    ensures { λ _. ⌜ now (bytes .exit) ≡ partBytes array block (now (content .entry)) (now (bytes .entry)) stores ⌝ }
+{
+    let placed = layout::place(array, block);
+    match placed {
+        Placed::Refused(number) => number,
+        Placed::At { stripe, member } => {
+            replace_in_part(array, stripe, member, content, bytes, stores)
+        }
     }
 }

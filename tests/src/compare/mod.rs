@@ -6,6 +6,7 @@ pub mod crc32c;
 pub mod faults;
 pub mod guard;
 pub mod images;
+pub mod intent;
 pub mod join;
 pub mod kernel;
 pub mod large;

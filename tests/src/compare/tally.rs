@@ -14,7 +14,7 @@ pub struct Tally {
 /// The name of a refusal.
 pub fn refused(number: u32) -> &'static str {
     #[rustfmt::skip]
-    const NAMES: [&str; 14] = ["0", "1", "2", "3", "4", "5", "6", "7", "8", "9", "10", "11", "12", "13"];
+    const NAMES: [&str; 17] = ["0", "1", "2", "3", "4", "5", "6", "7", "8", "9", "10", "11", "12", "13", "14", "15", "16"];
     NAMES[number as usize]
 }
 

@@ -4,6 +4,7 @@ pub mod checksum;
 pub mod crc32c;
 pub mod format;
 pub mod guard;
+pub mod intent;
 pub mod join;
 pub mod layout;
 pub mod patrol;

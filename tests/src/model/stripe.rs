@@ -94,7 +94,7 @@ pub enum Verdict {
     },
 }
 
-fn sized(bytes: &[u8], length: usize) -> Answer<()> {
+pub(super) fn sized(bytes: &[u8], length: usize) -> Answer<()> {
     if bytes.len() == length {
         Ok(())
     } else {
@@ -201,7 +201,7 @@ fn told_of(array: &Array, stripe: u64, member: usize, block: &[u8]) -> Checked {
     told(array, stripe, member, guard_of(array, data), tag)
 }
 
-fn is_good(array: &Array, stripe: u64, bytes: &[u8], member: usize) -> bool {
+pub fn is_good(array: &Array, stripe: u64, bytes: &[u8], member: usize) -> bool {
     let told = told_of(array, stripe, member, &bytes[array.format().span(member)]);
     matches!(told, Checked::Good(_))
 }

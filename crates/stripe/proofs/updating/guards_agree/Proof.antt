@@ -1,6 +1,5 @@
 -- `stripe::updating::guards_agree` meets its contract. Assumes nothing.
-use mathlib.Core.Path.{sym, ap₂, _∙_}
-use Prim.Native.Nat.{ℕ}
+use mathlib.Core.Path.{ap₂, _∙_}
 use native.Mathlib.Omega.{arith}
 use lib.Dec.{eqb}
 use Rattle.tag.specs.Blocks.{formatAt}
