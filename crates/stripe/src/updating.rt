@@ -157,13 +157,13 @@ fn replace_own(array: Array, stripe: u64, member: usize, content: &[u8], bytes: 
     ensures { λ r. ⌜ r ≡ replaceRefusal array stripe member (length (now (content .entry))) (now (bytes .entry)) ⌝ }
     ensures { λ _. ⌜ now (bytes .exit) ≡ unlessRefused (replaceRefusal array stripe member (length (now (content .entry))) (now (bytes .entry))) (ownWritten array stripe member (now (content .entry)) (now (bytes .entry))) (now (bytes .entry)) ⌝ }
 {
-    let refusal = replace_refusal(array, stripe, member, content.len(), bytes);
-    if refusal != 0 {
-        return refusal;
+    let number = replace_refusal(array, stripe, member, content.len(), bytes);
+    if number != 0 {
+        return number;
     }
     let seat = layout::seat_of(array, stripe);
-    let data_guard = format::guard(array.method, content) as u64;
-    write_block(array, stripe, seat, member, content, data_guard, bytes);
+    let own_guard = format::guard(array.method, content) as u64;
+    write_block(array, stripe, seat, member, content, own_guard, bytes);
     0
 }
 

@@ -30,8 +30,8 @@ seat-of-requires c κs = search needs
 guard-requires : tie.Need-guard-requires
 guard-requires c κs = search needs
 
-cast-data-guard : tie.Need-cast-data-guard
-cast-data-guard c = search needs
+cast-own-guard : tie.Need-cast-own-guard
+cast-own-guard c = search needs
 
 write-block-requires : tie.Need-write-block-requires
 write-block-requires c κs =
@@ -68,7 +68,7 @@ replace-own-spec =
     returns
     seat-of-requires
     guard-requires
-    cast-data-guard
+    cast-own-guard
     write-block-requires
     same-length-2
     returns-2)
