@@ -66,6 +66,15 @@ module _ (a : Array) (stripe member : ℕ) (new bytes : List ℕ) where
 
 -- ---- of a block of the array
 
+-- both stores are the whole update
+pub part-whole : (a : Array) (block : ℕ) (new bytes : List ℕ) → partBytes a block new bytes 2 ≡ updateBytes a block new bytes
+unfolding partBytes updateBytes
+part-whole a block new bytes = either (eqb (updateRefusal a block (length new) bytes) 0) (replaced a (stripeOf a block) (memberOf a block) new bytes)
+  where
+    either : (t : Bool) (x : List ℕ) → cond t (cond t x bytes) bytes ≡ cond t x bytes
+    either true x = refl
+    either false x = refl
+
 module _ (a : Array) (block : ℕ) (new bytes : List ℕ) (stores : ℕ) where
   abbrev pub PartUpdates : ℕ → List ℕ → Type 0
   PartUpdates number left = (number ≡ updateRefusal a block (length new) bytes) × (left ≡ partBytes a block new bytes stores)

@@ -139,18 +139,6 @@ fn replace(array: Array, stripe: u64, member: usize, content: &[u8], bytes: &mut
     0
 }
 
-// Updates a block of the array within its stripe.
-pub fn update(array: Array, block: u64, content: &[u8], bytes: &mut [u8]) -> u8
-    ensures { λ r. ⌜ r ≡ updateRefusal array block (length (now (content .entry))) (now (bytes .entry)) ⌝ }
-    ensures { λ _. ⌜ now (bytes .exit) ≡ updateBytes array block (now (content .entry)) (now (bytes .entry)) ⌝ }
-{
-    let placed = layout::place(array, block);
-    match placed {
-        Placed::Refused(number) => number,
-        Placed::At { stripe, member } => replace(array, stripe, member, content, bytes),
-    }
-}
-
 // The first of an update's two stores alone: the block with the new data.
 fn replace_own(array: Array, stripe: u64, member: usize, content: &[u8], bytes: &mut [u8]) -> u8
     requires { ⌜ ownerRefusal array stripe member ≡ 0 ⌝ }
@@ -208,4 +196,12 @@ pub fn update_in_part(
             replace_in_part(array, stripe, member, content, bytes, stores)
         }
     }
+}
+
+// Updates a block of the array within its stripe.
+pub fn update(array: Array, block: u64, content: &[u8], bytes: &mut [u8]) -> u8
+    ensures { λ r. ⌜ r ≡ updateRefusal array block (length (now (content .entry))) (now (bytes .entry)) ⌝ }
+    ensures { λ _. ⌜ now (bytes .exit) ≡ updateBytes array block (now (content .entry)) (now (bytes .entry)) ⌝ }
+{
+    update_in_part(array, block, content, bytes, 2)
 }

@@ -17,7 +17,7 @@ use std::time::Duration;
 const MEMBERS: [usize; 3] = [3, 5, 16];
 /// How many images have a random header, and how many random stripes.
 const HEADERS: usize = 800;
-const IMAGES: usize = 600;
+const IMAGES: usize = 1_500;
 /// How many stripes an image of torn ones has.
 const TORN: usize = 512;
 
