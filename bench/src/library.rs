@@ -94,6 +94,7 @@ calls! {
     join, irumbolai_join, "v3_irumbolai_join", (a: u16, b: u16, length_of_b: u32) -> u16;
     seal, irumbolai_seal, "v3_irumbolai_seal", (members: usize, stripes: u64, volume: u8, method: u8, row: u8, stripe: u64, data: *const u8, data_length: usize, bytes: *mut u8, length: usize) -> u32;
     rebuild, irumbolai_rebuild, "v3_irumbolai_rebuild", (members: usize, stripes: u64, volume: u8, method: u8, row: u8, stripe: u64, member: usize, bytes: *mut u8, length: usize) -> u32;
+    update, irumbolai_update, "v3_irumbolai_update", (members: usize, stripes: u64, volume: u8, method: u8, row: u8, block: u64, data: *const u8, data_length: usize, bytes: *mut u8, length: usize) -> u32;
     scrub, irumbolai_scrub, "v3_irumbolai_scrub", (members: usize, stripes: u64, volume: u8, method: u8, row: u8, stripe: u64, bytes: *const u8, length: usize) -> Answer;
     start, irumbolai_start, "v3_irumbolai_start", (members: usize, stripes: u64, volume: u8, method: u8, row: u8, stripe: u64, work: *mut u8, work_length: usize) -> Taken;
     piece, irumbolai_piece, "v3_irumbolai_piece", (state: Scan, member: usize, bytes: *const u8, length: usize, work: *mut u8, work_length: usize) -> Taken;
@@ -145,6 +146,13 @@ pub fn seal<A: Archive>(method: u8, stripe: u64, data: &[u8], bytes: &mut [u8]) 
 pub fn rebuild<A: Archive>(method: u8, stripe: u64, member: usize, bytes: &mut [u8]) -> u32 {
     let (to, length) = (bytes.as_mut_ptr(), bytes.len());
     on_array!(A, rebuild, method, stripe, member, to, length)
+}
+
+/// Puts new data into a block. Gives the refusal.
+pub fn update<A: Archive>(method: u8, block: u64, data: &[u8], bytes: &mut [u8]) -> u32 {
+    let (from, from_length) = (data.as_ptr(), data.len());
+    let (to, to_length) = (bytes.as_mut_ptr(), bytes.len());
+    on_array!(A, update, method, block, from, from_length, to, to_length)
 }
 
 pub fn scrub<A: Archive>(method: u8, stripe: u64, bytes: &[u8]) -> Verdict {

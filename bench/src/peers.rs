@@ -503,6 +503,39 @@ pub fn rebuild<P: Peer>(stripe: u64, member: usize, bytes: &mut [u8]) -> bool {
     true
 }
 
+/// Whether the lowest block of a stripe got new data: it and the parity must be good, and the guards of all members combine to zero, as those of an even
+/// number do in a right stripe. Guards of three blocks combine as the blocks do, by every method.
+pub fn update<P: Peer>(stripe: u64, new: &[u8], bytes: &mut [u8]) -> bool {
+    let (data, length) = (<ShapeOf<P>>::DATA, <ShapeOf<P>>::BLOCK);
+    let parity = parity_member(stripe);
+    let own = usize::from(parity == 0);
+    let good = |member: usize| {
+        let block = &bytes[member * length..][..length];
+        standing_at::<P>(stripe, member, block) == Standing::Good
+    };
+    if !good(own) || !good(parity) || combined_guards::<ShapeOf<P>>(bytes, MEMBERS) != 0 {
+        return false;
+    }
+    let (low, high) = bytes.split_at_mut(own.max(parity) * length);
+    let (first, second) = (
+        &mut low[own.min(parity) * length..][..length],
+        &mut high[..length],
+    );
+    let (block, sum) = match own < parity {
+        true => (first, second),
+        false => (second, first),
+    };
+    let own_guard = guard::<P>(new);
+    let combined =
+        stored::<ShapeOf<P>>(&sum[data..]) ^ stored::<ShapeOf<P>>(&block[data..]) ^ own_guard;
+    P::Combine::add(&mut sum[..data], &block[..data]);
+    P::Combine::add(&mut sum[..data], new);
+    block[..data].copy_from_slice(new);
+    block[data..].copy_from_slice(due::<ShapeOf<P>>(stripe, own, own_guard).as_ref());
+    sum[data..].copy_from_slice(due::<ShapeOf<P>>(stripe, parity, combined).as_ref());
+    true
+}
+
 /// What a scan of small blocks holds between its pieces, beside the work buffer.
 struct Scan {
     at: [usize; MEMBERS],

@@ -12,6 +12,8 @@ use std::hint::black_box;
 pub struct Room {
     pub copy: [u8; LARGE_STRIPE],
     pub work: [u8; DATA],
+    /// What a block is updated with.
+    pub new: [u8; LARGE_DATA],
 }
 
 impl Room {
@@ -19,6 +21,7 @@ impl Room {
         Room {
             copy: [0; LARGE_STRIPE],
             work: [0; DATA],
+            new: std::array::from_fn(|at| (at * at % 251) as u8),
         }
     }
 }
@@ -176,6 +179,24 @@ pub const ROWS: &[Row] = &[
         ]),
     },
     Row {
+        name: "update of one block",
+        unit: "block",
+        units: 1,
+        bytes: DATA,
+        sources: &[Source::L1, Source::Memory],
+        method: CRC,
+        jobs: all([
+            |stripe, bytes, room| updated::<library::Plain>(CRC, stripe, &room.new[..DATA], bytes),
+            |stripe, bytes, room| updated::<library::V3>(CRC, stripe, &room.new[..DATA], bytes),
+            |stripe, bytes, room| {
+                peers::update::<Ordinary>(stripe, &room.new[..DATA], bytes).into()
+            },
+            |stripe, bytes, room| peers::update::<Isal>(stripe, &room.new[..DATA], bytes).into(),
+            |stripe, bytes, room| peers::update::<IsalV3>(stripe, &room.new[..DATA], bytes).into(),
+            |_, bytes, room| copy_front(DATA, bytes, room),
+        ]),
+    },
+    Row {
         name: "checksum of one block alone",
         unit: "block",
         units: MEMBERS,
@@ -229,6 +250,24 @@ pub const ROWS: &[Row] = &[
             |stripe, bytes, _| rebuilt::<library::V3>(CHECKSUM, stripe, bytes),
             |stripe, bytes, _| u64::from(peers::rebuild::<Summed>(stripe, LOST, bytes)),
             |_, bytes, room| copy_stripe(bytes, room),
+        ]),
+    },
+    Row {
+        name: "update of one block, method 2",
+        unit: "block",
+        units: 1,
+        bytes: DATA,
+        sources: &[Source::L1, Source::Memory],
+        method: CHECKSUM,
+        jobs: without_isal([
+            |stripe, bytes, room| {
+                updated::<library::Plain>(CHECKSUM, stripe, &room.new[..DATA], bytes)
+            },
+            |stripe, bytes, room| {
+                updated::<library::V3>(CHECKSUM, stripe, &room.new[..DATA], bytes)
+            },
+            |stripe, bytes, room| peers::update::<Summed>(stripe, &room.new[..DATA], bytes).into(),
+            |_, bytes, room| copy_front(DATA, bytes, room),
         ]),
     },
     Row {
@@ -295,10 +334,32 @@ pub const ROWS: &[Row] = &[
             |_, bytes, room| copy_stripe(bytes, room),
         ]),
     },
+    Row {
+        name: "update of one block, method 3",
+        unit: "block",
+        units: 1,
+        bytes: LARGE_DATA,
+        sources: &[Source::L2, Source::Memory],
+        method: LARGE,
+        jobs: all([
+            |stripe, bytes, room| updated::<library::Plain>(LARGE, stripe, &room.new, bytes),
+            |stripe, bytes, room| updated::<library::V3>(LARGE, stripe, &room.new, bytes),
+            |stripe, bytes, room| peers::update::<OrdinaryLarge>(stripe, &room.new, bytes).into(),
+            |stripe, bytes, room| peers::update::<IsalLarge>(stripe, &room.new, bytes).into(),
+            |stripe, bytes, room| peers::update::<IsalLargeV3>(stripe, &room.new, bytes).into(),
+            |_, bytes, room| copy_front(LARGE_DATA, bytes, room),
+        ]),
+    },
 ];
 
 fn rebuilt<A: Archive>(method: u8, stripe: u64, bytes: &mut [u8]) -> u64 {
     u64::from(library::rebuild::<A>(method, stripe, LOST, bytes) == 0)
+}
+
+/// The lowest block of a stripe with new data.
+fn updated<A: Archive>(method: u8, stripe: u64, new: &[u8], bytes: &mut [u8]) -> u64 {
+    let lowest = stripe * (MEMBERS as u64 - 1);
+    u64::from(library::update::<A>(method, lowest, new, bytes) == 0)
 }
 
 /// Guards of the first block, each begun when the one before is known: where it starts depends on it.
@@ -371,6 +432,10 @@ fn copy_large(bytes: &[u8], room: &mut Room) -> u64 {
         copy(&from[..LARGE_DATA], &mut to[..LARGE_DATA]);
     }
     0
+}
+
+fn copy_front(length: usize, bytes: &[u8], room: &mut Room) -> u64 {
+    copy_stripe(&bytes[..length], room)
 }
 
 pub fn copy_stripe(bytes: &[u8], room: &mut Room) -> u64 {
