@@ -1,7 +1,7 @@
 -- Stripes at risk on the code's own promises. `Learnt` is what the kit makes of a function's `ensures`: all that a caller may count on. From it
 -- a call of `update` or `recover` for another stripe is a step of what happens meanwhile; and of an update that is accepted, whatever was
 -- cut, and of the recovery that follows, AfterCut holds. Assumes nothing.
-use mathlib.Core.Path.{_≡_, sym, _∙_, subst}
+use mathlib.Core.Path.{_≡_, sym, ap, _∙_, subst}
 use mathlib.Core.Logic.{_≢_}
 use mathlib.Core.List.{List}
 use Prim.Native.Nat.{ℕ, _<_}
@@ -11,9 +11,12 @@ use denote.Triple.Clauses.{AtExit}
 use Rattle.layout.specs.Places.{stripeOf}
 use Rattle.stripe.specs.Verdicts.{scrubNumbers, clean}
 use Rattle.intent.specs.declared.Recovery.{Recovery}
+use Rattle.intent.specs.Records.{named}
 use Rattle.intent.specs.Calls.{recoveryNumbers}
 use Rattle.intent.specs.Meanwhile.{Meanwhile, updates, recovers, Untouched}
 use Rattle.intent.specs.AfterCut.{AfterCut}
+use Rattle.intent.proofs.Logs.{Log}
+use Rattle.intent.proofs.Rules.{update-keeps-log, update-keeps-names, recover-keeps-log, recover-keeps-names}
 use Rattle.intent.proofs.CutRecovers.{cut-recovered}
 use Rattle.intent.proofs.updating.update.Kinds as update-kinds
 use Rattle.intent.proofs.updating.update.Reads as update-reads
@@ -35,6 +38,32 @@ module _ (κs : Lfts 2) (a : Dens κs recover-kinds.ps) (r : Recovery) (e : AtEx
       → Meanwhile (a .0) stripe (e .1 .1 .1 .0 .now) last → Meanwhile (a .0) stripe (a .1 .1 .1 .0 .now) last
   recover-steps promised stripe ne {last} rest =
       recovers (a .1 .0) (a .1 .1 .0 .now) ne (subst (λ (x : List ℕ). Meanwhile (a .0) stripe x last) (promised .1 .1) rest)
+
+-- THE SECOND: of any call, refused or not and cut anywhere, a record that fits the array goes on to fit, so that no stripe is ever in it twice
+-- (`never-twice`); and every other stripe is named as it was: no call loses or makes an entry of another
+module _ (κs : Lfts 3) (a : Dens κs update-kinds.ps) (r : ℕ) (e : AtExit (endedOf 3 update-kinds.ps update-kinds.r) κs) where
+  pub update-keeps : update-reads.Learnt κs a r e → Log (a .0) (a .1 .1 .1 .1 .0 .now)
+      → Log (a .0) (e .1 .1 .1 .1 .0 .now) × ((t : ℕ) → t ≢ stripeOf (a .0) (a .1 .0) → named t (e .1 .1 .1 .1 .0 .now) ≡ named t (a .1 .1 .1 .1 .0 .now))
+  update-keeps promised fits =
+      let block = a .1 .0 in
+      let new = a .1 .1 .0 .now in
+      let bytes = a .1 .1 .1 .0 .now in
+      let stores = a .1 .1 .1 .1 .1 .0 in
+      let log = a .1 .1 .1 .1 .0 .now in (
+        subst (Log (a .0)) (sym (promised .1 .1)) (update-keeps-log (a .0) log fits block new bytes stores),
+        λ t ne. ap (named t) (promised .1 .1) ∙ update-keeps-names (a .0) log fits block new bytes stores t ne,
+      )
+
+module _ (κs : Lfts 2) (a : Dens κs recover-kinds.ps) (r : Recovery) (e : AtExit (endedOf 2 recover-kinds.ps recover-kinds.r) κs) where
+  pub recover-keeps : recover-reads.Learnt κs a r e → Log (a .0) (a .1 .1 .1 .0 .now)
+      → Log (a .0) (e .1 .1 .1 .0 .now) × ((t : ℕ) → t ≢ a .1 .0 → named t (e .1 .1 .1 .0 .now) ≡ named t (a .1 .1 .1 .0 .now))
+  recover-keeps promised fits =
+      let stripe = a .1 .0 in
+      let bytes = a .1 .1 .0 .now in
+      let log = a .1 .1 .1 .0 .now in (
+        subst (Log (a .0)) (sym (promised .1 .1)) (recover-keeps-log (a .0) log fits stripe bytes),
+        λ t ne. ap (named t) (promised .1 .1) ∙ recover-keeps-names (a .0) log fits stripe bytes t ne,
+      )
 
 -- THE THEOREM: an update of a clean stripe is accepted and cut after any number of stores; then come any calls for other stripes, and the stripe is
 -- left alone but for its parity while it is entered; then it is recovered
