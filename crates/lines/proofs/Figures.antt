@@ -6,8 +6,8 @@ use Prim.Native.Nat.{ℕ}
 use Rattle.layout.specs.Arrays.{arrayOf, arrayRefusal}
 use Rattle.layout.specs.declared.Array.{Array}
 use Rattle.tag.specs.Numbers.{numberOf}
-use Rattle.lines.specs.Text.{decimal, scrubWord, membersWord, stripesWord, cleanWord, badWord, letters, uncheckedWord, tornWord, totalWord, cleanCount, badCount, uncheckedCount, tornCount, refusedWord}
-use Rattle.lines.specs.Lines.{firstLine, stripeLine, totalLine, refusedLine}
+use Rattle.lines.specs.Text.{decimal, scrubWord, membersWord, stripesWord, cleanWord, badWord, letters, uncheckedWord, tornWord, lostWord, totalWord, cleanCount, badCount, uncheckedCount, tornCount, refusedWord}
+use Rattle.lines.specs.Lines.{firstLine, stripeLine, lostLine, totalLine, refusedLine}
 use Rattle.lines.specs.Headers.{formOf, formSize, later, arrayIn, headerRefusal}
 
 -- ---- lines
@@ -42,6 +42,11 @@ pub torn-line-reads : (stripeLine 12 (2 ∷ 509 ∷ 0 ∷ 0 ∷ []) ≡ 0x31 ∷
     × (stripeLine 12 (2 ∷ 512 ∷ 0 ∷ 0 ∷ []) ≡ 0x31 ∷ 0x32 ∷ 0x20 ∷ 0x54 ∷ 0x4F ∷ 0x52 ∷ 0x4E ∷ 0x20 ∷ 0x35 ∷ 0x31 ∷ 0x32 ∷ 0x0A ∷ [])
 unfolding stripeLine tornWord decimal
 torn-line-reads = (refl, refl)
+
+-- "12 LOST"
+pub lost-line-reads : lostLine 12 ≡ 0x31 ∷ 0x32 ∷ 0x20 ∷ 0x4C ∷ 0x4F ∷ 0x53 ∷ 0x54 ∷ 0x0A ∷ []
+unfolding lostLine lostWord decimal
+lost-line-reads = refl
 
 -- "TOTAL 1000 clean 991 bad 2 unchecked 3 torn 4"
 pub total-line-reads : totalLine fiveByThousand (record { clean = 991; bad = 2; unchecked = 3; torn = 4 }) ≡ 0x54 ∷ 0x4F ∷ 0x54 ∷ 0x41 ∷ 0x4C ∷ 0x20 ∷ 0x31 ∷ 0x30 ∷ 0x30 ∷ 0x30 ∷ 0x20 ∷ 0x63 ∷ 0x6C ∷ 0x65 ∷ 0x61 ∷ 0x6E ∷ 0x20 ∷ 0x39

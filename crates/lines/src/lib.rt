@@ -13,7 +13,7 @@ ghost use Prim.Native.Nat.{_+_, _≤_};
 ghost use lib.ListN.{length};
 ghost use Rattle.verdict.specs.Verdicts.{verdictNumbers};
 ghost use Rattle.lines.specs.Text.{Written, decimal, letter, letters, blank, lineEnd, scrubWord};
-ghost use Rattle.lines.specs.Lines.{fitting, firstLine, stripeLine, totalLine, refusedLine};
+ghost use Rattle.lines.specs.Lines.{fitting, firstLine, stripeLine, lostLine, totalLine, refusedLine};
 
 // Bytes of room that any line has enough of; with less a line is not written, and 0 is answered.
 pub const ROOM: usize = 160;
@@ -126,6 +126,17 @@ pub fn stripe_line(out: &mut [u8], stripe: u64, verdict: Verdict) -> usize
             put(out, line, b"\n")
         }
     }
+}
+
+// The line of a stripe that a repair has to leave as it is.
+pub fn lost_line(out: &mut [u8], stripe: u64) -> usize
+    ensures { λ r. ⌜ Written (now (out .entry)) 0 (fitting (length (now (out .entry))) (lostLine stripe)) (now (out .exit)) r ⌝ }
+{
+    if out.len() < ROOM {
+        return 0;
+    }
+    let line = number(out, 0, stripe);
+    put(out, line, b" LOST\n")
 }
 
 // The last line: how many stripes there are, and how many of them were clean, bad, unchecked and torn.
