@@ -242,13 +242,15 @@ module _ (header : List ℕ) (have : ℕ) (long : length header ≡ headerRoom) 
       unfolding headerRefusal
       array-decides e = rw (yes-known, all-there, following, ← told, eq-eqb _ _ e, whole-array)
 
-  -- so the array of a header that is not refused is read from the buffer, whatever stands behind the header there
-  pub array-there : headerRefusal (take have header) ≡ 0 → arrayIn (take have header) ≡ arrayIn header
-  array-there e =
+  -- so the array of a header that is not refused with 10 is read from the buffer, whatever stands behind the header there
+  pub array-told : headerRefusal (take have header) ≢ 10 → arrayIn (take have header) ≡ arrayIn header
+  array-told e =
       let size = headerSize (take have header) in
-      whole-array size refl (λ z. let n : _≡_ {A = ℕ} 0 10 = sym e ∙ unknown-refused size refl z in omega arith)
-      (go (decLt have size))
+      whole-array size refl (λ z. e (unknown-refused size refl z)) (go (decLt have size))
     where
       go : Dec (have < headerSize (take have header)) → headerSize (take have header) ≤ have
-      go (yes h) = let n : _≡_ {A = ℕ} 0 10 = sym e ∙ lacking-refused (headerSize (take have header)) refl h in absurd (omega arith)
+      go (yes h) = absurd (e (lacking-refused (headerSize (take have header)) refl h))
       go (no h) = omega arith
+
+  pub array-there : headerRefusal (take have header) ≡ 0 → arrayIn (take have header) ≡ arrayIn header
+  array-there e = array-told (λ z. let n : _≡_ {A = ℕ} 0 10 = sym e ∙ z in omega arith)

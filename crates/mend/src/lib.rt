@@ -30,13 +30,7 @@ fn rebuild_or_lose(
 }
 
 // What a verdict asks for.
-fn mend_by(
-    array: Array,
-    stripe: u64,
-    verdict: Verdict,
-    bytes: &mut [u8],
-    list: &mut [u8],
-) -> usize
+fn mend_by(array: Array, stripe: u64, verdict: Verdict, bytes: &mut [u8], list: &mut [u8]) -> usize
     ensures { λ _. ⌜ now (bytes .exit) ≡ mendedBy array stripe (verdictNumbers verdict) (now (bytes .entry)) ⌝ }
     ensures { λ r. ⌜ Written (now (list .entry)) 0 (fitting (length (now (list .entry))) (listedBy array stripe (verdictNumbers verdict) (now (bytes .entry)))) (now (list .exit)) r ⌝ }
 {

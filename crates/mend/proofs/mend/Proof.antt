@@ -41,9 +41,10 @@ returns-2 c =
     let asked = known .before .before in
     let a = asked .before .before .before .before .args in
     let told = asked .scrub .ensures in
-    let is = known .scrubbed .given .1 in
-    (did .mend-by .ensures .0 ∙ found-mends (a .array) (a .stripe) (a .bytes .now) told is,
-    line-same (found-lists (a .array) (a .stripe) (a .bytes .now) told is) (did .mend-by .ensures .1))
+    let is = known .scrubbed .given .1 in (
+      did .mend-by .ensures .0 ∙ found-mends (a .array) (a .stripe) (a .bytes .now) told is,
+      line-same (found-lists (a .array) (a .stripe) (a .bytes .now) told is) (did .mend-by .ensures .1),
+    )
 
 pub mend-spec : {M : Type 1} → statement M
 mend-spec =

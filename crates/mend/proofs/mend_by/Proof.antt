@@ -43,9 +43,10 @@ returns-2 c =
     let did = c .before .before .before .before in
     let told = did .before .before .before .before in
     let a = told .before .before .before .before .args in
-    let is = told .verdict .given .1 in
-    (did .rebuild-or-lose .ensures .0 ∙ bad-rebuilds (a .array) (a .stripe) (a .bytes .now) is,
-    line-same (bad-listed (a .array) (a .stripe) (a .bytes .now) is) (did .rebuild-or-lose .ensures .1))
+    let is = told .verdict .given .1 in (
+      did .rebuild-or-lose .ensures .0 ∙ bad-rebuilds (a .array) (a .stripe) (a .bytes .now) is,
+      line-same (bad-listed (a .array) (a .stripe) (a .bytes .now) is) (did .rebuild-or-lose .ensures .1),
+    )
 
 same-length-3 : tie.Need-same-length-3
 same-length-3 c = search needs

@@ -13,9 +13,10 @@ same-length c = search needs
 returns : tie.Need-returns
 returns c =
     let done = c .before .before .before in
-    let a = done .before .before .before .before .args in
-    (done .rebuild .ensures .1,
-    line-same (rebuilt-unlisted (a .array) (a .stripe) (a .member) (a .bytes .now) (done .rebuild .ensures .0) (c .if1 .taken)) (no-line (a .list .now)))
+    let a = done .before .before .before .before .args in (
+      done .rebuild .ensures .1,
+      line-same (rebuilt-unlisted (a .array) (a .stripe) (a .member) (a .bytes .now) (done .rebuild .ensures .0) (c .if1 .taken)) (no-line (a .list .now)),
+    )
 
 lost-line-requires : tie.Need-lost-line-requires
 lost-line-requires c κs = search needs
@@ -31,9 +32,10 @@ returns-2 c =
     let line = c .before .before in
     let i = line .before .before in
     let done = i .before .before .before in
-    let a = done .before .before .before .before .args in
-    (done .rebuild .ensures .1,
-    line-same (refused-lost (a .array) (a .stripe) (a .member) (a .bytes .now) (done .rebuild .ensures .0) (i .if1 .left)) (line .lost-line .ensures))
+    let a = done .before .before .before .before .args in (
+      done .rebuild .ensures .1,
+      line-same (refused-lost (a .array) (a .stripe) (a .member) (a .bytes .now) (done .rebuild .ensures .0) (i .if1 .left)) (line .lost-line .ensures),
+    )
 
 pub rebuild-or-lose-spec : {M : Type 1} → statement M
 rebuild-or-lose-spec =

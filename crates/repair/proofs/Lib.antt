@@ -1,0 +1,6 @@
+pub mod Held
+pub mod Refusals
+pub mod Ranges
+pub mod Doing
+pub mod Within
+pub mod Filled

@@ -1,0 +1,3 @@
+pub mod Repairs
+pub mod Feeding
+pub mod Feeds
