@@ -4,3 +4,10 @@ pub mod Ranges
 pub mod Doing
 pub mod Within
 pub mod Filled
+pub mod Stages
+pub mod Leading
+pub mod Stepping
+pub mod FeedRuns
+pub mod Closing
+pub mod Theorem
+pub mod Images

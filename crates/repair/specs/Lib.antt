@@ -1,3 +1,5 @@
 pub mod Repairs
 pub mod Feeding
 pub mod Feeds
+pub mod Runs
+pub mod SecondPass
