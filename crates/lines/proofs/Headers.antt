@@ -143,6 +143,11 @@ short-refused bytes h = rw (lt-leb (headerSize bytes) (length bytes) h) (go (kno
     go true = refl
     go false = refl
 
+-- the volume is its fifth byte
+pub volume-there : (bytes : List ℕ) → arrayIn bytes .volume ≡ getD bytes 4 0
+unfolding arrayIn
+volume-there bytes = refl
+
 -- one that is not refused has an array whose numbers are in range
 pub header-sound : (bytes : List ℕ) → headerRefusal bytes ≡ 0 → Sound (arrayIn bytes)
 unfolding headerRefusal

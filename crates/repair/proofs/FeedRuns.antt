@@ -14,8 +14,9 @@ use Rattle.lines.specs.Lines.{lineRoom, refusedLine}
 use Rattle.lines.specs.Headers.{arrayIn}
 use Rattle.mend.specs.Mending.{mended}
 use Rattle.repair.specs.declared.Repair.{Repair}
+use Rattle.repair.specs.declared.Fed.{Fed}
 use Rattle.repair.specs.Repairs.{Output, andThen, repairRefusal}
-use Rattle.repair.specs.Feeding.{Step, holding, entering, over, sizeNow, tooShort, headerWhole, stripeWhole, whole, came, took, passed, stepOf, idle}
+use Rattle.repair.specs.Feeding.{Step, Does, holding, entering, over, sizeNow, tooShort, headerWhole, stripeWhole, whole, came, took, passed, stepOf, idle}
 use Rattle.repair.specs.Feeds.{stepThen, feedSteps, feedOf}
 use Rattle.repair.proofs.Within.{Within, step-within}
 use Rattle.repair.proofs.Stages.{Stage, toWrite, Stands, outputOf}
@@ -90,6 +91,18 @@ steps-within (suc steps) r input held room listRoom =
 pub feed-within : (r : Repair) (input held : List ℕ) (room listRoom : ℕ) → Within (length input) room listRoom (feedOf r input held room listRoom)
 unfolding feedOf
 feed-within r input held room listRoom = steps-within (suc (length input)) r input held room listRoom
+
+-- so a call that does a feed answers no more than it was lent
+module _ (r : Repair) (input held : List ℕ) {image list : List ℕ} {a : Fed} {h′ image′ list′ : List ℕ}
+    (d : Does (feedOf r input held (length image) (length list)) a h′ image image′ list list′) where
+  pub fed-uses : a .used ≤ length input
+  fed-uses = rw (d .uses) (feed-within r input held (length image) (length list) .uses)
+
+  pub fed-writes : a .written ≤ length image
+  fed-writes = rw (d .writes) (feed-within r input held (length image) (length list) .fits)
+
+  pub fed-lists : a .listed ≤ length list
+  fed-lists = rw (d .lists) (feed-within r input held (length image) (length list) .tells)
 
 -- ---- the buffer that holds keeps its length
 

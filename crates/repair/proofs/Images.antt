@@ -36,7 +36,7 @@ module _ (a : Array) where
   size = stripeLength a
 
   -- a whole stripe, and what follows
-  one-stripe : (left stripe : ℕ) (bytes : List ℕ) → size ≤ length bytes
+  pub one-stripe : (left stripe : ℕ) (bytes : List ℕ) → size ≤ length bytes
       → repairStripes a (suc left) stripe bytes
       ≡ andThen (record { image = mended a stripe (take size bytes); list = listed a stripe (take size bytes) }) (repairStripes a left (stripe + 1) (drop size bytes))
   unfolding repairStripes
@@ -127,7 +127,7 @@ module _ (image : List ℕ) (done : repairRefusal (headerOf image) ≡ 0) where
   stripes-behind : (rest : List ℕ) → stripesOf (header ++ rest) ≡ rest
   stripes-behind rest = ap (λ (n : ℕ). drop n (header ++ rest)) (size-before rest) ∙ drop-at header rest (length header) refl
 
-  repair-is : repairOf image ≡ andThen (record { image = header; list = [] }) (repairStripes (arrayOf image) (arrayOf image .stripes) 0 (stripesOf image))
+  pub repair-is : repairOf image ≡ andThen (record { image = header; list = [] }) (repairStripes (arrayOf image) (arrayOf image .stripes) 0 (stripesOf image))
   unfolding repairOf
   repair-is = rw done
 

@@ -11,3 +11,5 @@ pub mod FeedRuns
 pub mod Closing
 pub mod Theorem
 pub mod Images
+pub mod Refused
+pub mod Promised

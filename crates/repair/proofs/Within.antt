@@ -100,3 +100,6 @@ close-fits r room = by-tests (decLt room lineRoom) (eqb (r .stage) 0) (eqb (r .s
     by-tests (no h) true g = rw (le-ltb room lineRoom (omega arith)) (omega (arith, refused-line-fits 10))
     by-tests (no h) false true = rw (le-ltb room lineRoom (omega arith)) (omega (arith, refused-line-fits 11))
     by-tests (no h) false false = rw (le-ltb room lineRoom (omega arith)) zero-le
+
+pub closed-within : (r : Repair) (room : ℕ) {listed : ℕ} → listed ≡ length (closing r room) → listed ≤ room
+closed-within r room told = rw told (close-fits r room)

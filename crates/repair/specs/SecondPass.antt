@@ -2,13 +2,19 @@
 use mathlib.Core.Path.{_≡_}
 use mathlib.Core.Logic.{_≢_}
 use mathlib.Core.Bool.{true, false}
-use mathlib.Core.List.{List}
+use mathlib.Core.List.{List, _++_}
 use Prim.Native.Nat.{ℕ, _<_}
 use Rattle.tag.specs.Blocks.{formatAt}
 use Rattle.stripe.specs.Stripes.{blockOf}
 use Rattle.stripe.specs.Verdicts.{scrubNumbers, clean}
+use Rattle.lines.specs.Lines.{refusedLine}
 use Rattle.mend.specs.Mending.{verdictOn, badMember, isRebuilt}
 use Rattle.repair.specs.Repairs.{Output, headerOf, arrayOf, stripeAt, repairOf}
+
+-- a list that ends with the line of a refusal
+pub record Ends (list : List ℕ) (refusal : ℕ) : Type 0 where
+  pub lines : List ℕ
+  pub ends : list ≡ lines ++ refusedLine refusal
 
 -- of an image, and of what was written for it
 pub record SecondPass (image : List ℕ) (written : Output) : Type 0 where
