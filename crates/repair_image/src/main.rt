@@ -57,8 +57,9 @@ fn pass(
 }
 
 // Closes the repair, and writes out the list's last line.
-fn end(repair: Repair, list: &mut [u8]) {
-    let last = repair::close(repair, list);
+fn end(repair: Repair) {
+    let mut list = io::buffer();
+    let last = repair::close(repair, &mut list);
     io::write_all(STDERR_FILENO, &list[0..last]);
 }
 
@@ -85,6 +86,6 @@ fn main() {
         turns -= 1;
     }
     if whole {
-        end(state, &mut list);
+        end(state);
     }
 }
