@@ -131,14 +131,14 @@ fn stripe_whole(
 {
     let array = repair.array;
     let stripe = repair.stripe;
-    let have = repair.have;
-    let listed = mend::mend(array, stripe, &mut held[0..have], list);
-    copy::put(image, 0, &held[0..have]);
+    let count = repair.have;
+    let listed = mend::mend(array, stripe, &mut held[0..count], list);
+    copy::put(image, 0, &held[0..count]);
     let state = next_stripe(repair);
     Fed {
         state: state,
         used: used,
-        written: have,
+        written: count,
         listed: listed,
     }
 }
