@@ -287,7 +287,8 @@ void repair(struct box *box, uint64_t member)
 
 /*
  * Data from elsewhere for a bad block of an open stripe, which nothing here can make again. The tag is the one that a
- * check of these data expects. Then the stripe is recovered, unless another block is amiss.
+ * check of these data expects. Then the stripe is recovered, unless another block is amiss. The theorem is silent here:
+ * that the data are the right ones is on whoever brings them.
  */
 void bring(struct box *box, uint64_t block)
 {

@@ -4,8 +4,8 @@
  * goes, IRUMBOLAI_LOST what becomes of the writes not flushed by then: none is lost, all are, the oldest alone, or half
  * of the latest.
  */
+#define _POSIX_C_SOURCE 200809L
 #include <stdint.h>
-#include <stdio.h>
 #include <stdlib.h>
 #include <string.h>
 #include <sys/types.h>
