@@ -9,6 +9,12 @@
 
 #include "recorder.h"
 
+/* Kinds of answers, by their numbers in irumbolai.h. */
+enum { CHECK_GOOD = 0, CHECK_BAD = 1 };
+enum { READ_STORED = 0, READ_REBUILT = 1 };
+enum { RECOVERY_NOT_ENTERED = 0, RECOVERY_LEFT = 2 };
+enum { VERDICT_CLEAN = 0, VERDICT_BAD = 1, VERDICT_TORN = 2 };
+
 /* A refusal by its number in irumbolai.h. */
 void say_refused(struct box *box, const char *what, uint64_t number, uint32_t refusal)
 {
@@ -114,11 +120,6 @@ static struct irumbolai_check check_member(struct box *box, uint64_t stripe, siz
     return check;
 }
 
-static bool is_bad(struct box *box, uint64_t stripe, size_t member)
-{
-    return check_member(box, stripe, member).kind == 1;
-}
-
 /* Is the stripe in the record? Then nobody can tell whether its blocks and its parity belong together. */
 static bool is_open(const struct box *box, uint64_t stripe)
 {
@@ -151,11 +152,11 @@ static void recover(struct box *box, uint64_t stripe)
         irumbolai_recover(ARRAY(box), stripe, box->bytes, box->length, struck, RECORD_BYTES);
     if (recovery.refusal != 0)
         fail("the record is not this array's");
-    if (recovery.kind == 0)
+    if (recovery.kind == RECOVERY_NOT_ENTERED)
         return;
     size_t parity = parity_of(box, stripe);
-    if (recovery.kind == 2 || !answers(box, parity)) {
-        say_left(box, stripe, recovery.kind == 2 ? recovery.member : parity);
+    if (recovery.kind == RECOVERY_LEFT || !answers(box, parity)) {
+        say_left(box, stripe, recovery.kind == RECOVERY_LEFT ? recovery.member : parity);
         return;
     }
     store_member(box, stripe, parity);
@@ -220,12 +221,12 @@ void read_block(struct box *box, uint64_t block)
         irumbolai_read(ARRAY(box), block, box->bytes, box->length, box->data, box->data_length);
     if (read.refusal != 0) {
         say_refused(box, "read", block, read.refusal);
-    } else if (read.kind == 1 && is_open(box, place.stripe)) {
+    } else if (read.kind == READ_REBUILT && is_open(box, place.stripe)) {
         say_left(box, place.stripe, place.member);
     } else {
         printf("read %" PRIu64 " %s\n", block, kinds[read.kind]);
         fwrite(box->data, 1, box->data_length, stdout);
-        box->found = box->found || read.kind != 0;
+        box->found = box->found || read.kind != READ_STORED;
     }
 }
 
@@ -233,12 +234,12 @@ void read_block(struct box *box, uint64_t block)
 static void say_verdict(uint64_t stripe, struct irumbolai_verdict verdict)
 {
     printf("patrol %" PRIu64, stripe);
-    if (verdict.kind == 0)
+    if (verdict.kind == VERDICT_CLEAN)
         printf(" CLEAN\n");
-    else if (verdict.kind == 1)
+    else if (verdict.kind == VERDICT_BAD)
         printf(" BAD %" PRIu32 " %" PRIu32 " %c%c%c\n", verdict.first, verdict.count, verdict.guard_fits ? '-' : 'G',
                verdict.application_fits ? '-' : 'A', verdict.reference_fits ? '-' : 'R');
-    else if (verdict.kind == 2)
+    else if (verdict.kind == VERDICT_TORN)
         printf(" TORN %" PRIu32 "\n", verdict.first);
     else
         printf(" UNCHECKED %" PRIu32 " %" PRIu32 "\n", verdict.first, verdict.count);
@@ -254,7 +255,7 @@ void patrol(struct box *box, uint64_t turns)
         if (turn.verdict.refusal != 0)
             fail("the patrol is not this array's");
         say_verdict(turn.stripe, turn.verdict);
-        box->found = box->found || turn.verdict.kind != 0;
+        box->found = box->found || turn.verdict.kind != VERDICT_CLEAN;
         box->patrol = turn.state;
     }
 }
@@ -272,7 +273,7 @@ void repair(struct box *box, uint64_t member)
     recover_all(box);
     for (uint64_t stripe = 0; stripe < box->stripes; stripe++) {
         load(box, stripe);
-        if (is_open(box, stripe) || !is_bad(box, stripe, (size_t)member))
+        if (is_open(box, stripe) || check_member(box, stripe, (size_t)member).kind != CHECK_BAD)
             continue;
         uint32_t refusal = irumbolai_rebuild(ARRAY(box), stripe, (size_t)member, box->bytes, box->length);
         if (refusal != 0) {
@@ -286,9 +287,9 @@ void repair(struct box *box, uint64_t member)
 }
 
 /*
- * Data from elsewhere for a bad block of an open stripe, which nothing here can make again. The tag is the one that a
- * check of these data expects. Then the stripe is recovered, unless another block is amiss. The theorem is silent here:
- * that the data are the right ones is on whoever brings them.
+ * Data from elsewhere for a block of an open stripe that is not good, which nothing here can make again. Its tag is
+ * what a check of these data expects. Then the stripe is recovered, unless another block is amiss. The theorem is silent
+ * here: that the data are the right ones is on whoever brings them.
  */
 void bring(struct box *box, uint64_t block)
 {
@@ -297,7 +298,8 @@ void bring(struct box *box, uint64_t block)
 
     if (!load_at(box, "bring", block, &place))
         return;
-    if (!answers(box, place.member) || !is_open(box, place.stripe) || !is_bad(box, place.stripe, place.member)) {
+    bool good = check_member(box, place.stripe, place.member).kind == CHECK_GOOD;
+    if (good || !is_open(box, place.stripe) || !answers(box, place.member)) {
         say_refused(box, "bring", block, 9);
         return;
     }

@@ -1,8 +1,8 @@
 /*
  * Drives with a cache, for tests/recorder: linked in place of pwrite and fsync (ld's --wrap), so that a loss of power
- * also loses what was written and not flushed. IRUMBOLAI_CUT says before which of these calls, counted from 0, the power
- * goes, IRUMBOLAI_LOST what becomes of the writes not flushed by then: none is lost, all are, the oldest alone, or half
- * of the latest.
+ * also loses what was written and not flushed. IRUMBOLAI_CUT says before which of these calls, counted from 0, the
+ * power goes, IRUMBOLAI_LOST what becomes of the writes that were not flushed by then: none is lost, all are, the
+ * oldest alone, or half of the latest.
  */
 #define _POSIX_C_SOURCE 200809L
 #include <stdint.h>
@@ -23,13 +23,13 @@ static struct {
 } waiting[256];
 static size_t count, calls;
 
-/* The file as before this write: a file that it made longer gets other bytes there, as on a drive. */
+/* Takes the bytes of a write back, from some of them on. Past the end of the file as it was they are others, AAh. */
 static void undo(size_t which, size_t from)
 {
     size_t length = waiting[which].length;
+    off_t at = waiting[which].at + (off_t)from;
 
-    if (from < length &&
-        __real_pwrite(waiting[which].file, waiting[which].old + from, length - from, waiting[which].at + (off_t)from) < 0)
+    if (from < length && __real_pwrite(waiting[which].file, waiting[which].old + from, length - from, at) < 0)
         abort();
 }
 
