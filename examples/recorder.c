@@ -288,8 +288,8 @@ void repair(struct box *box, uint64_t member)
 
 /*
  * Data from elsewhere for a block of an open stripe that is not good, which nothing here can make again. Its tag is
- * what a check of these data expects. Then the stripe is recovered, unless another block is amiss. The theorem is silent
- * here: that the data are the right ones is on whoever brings them.
+ * what a check of these data expects. Then the stripe is recovered, unless another block is amiss. Of this the theorem
+ * says nothing: that the data are the right ones is on whoever brings them.
  */
 void bring(struct box *box, uint64_t block)
 {
