@@ -118,7 +118,7 @@ function tell(key) {
         point("1", first)
     }
     print ""
-    print first != "" ? "If not, this point fits:" : "This point fits:"
+    print (first != "" ? "If not, this point fits:" : "This point fits:")
     print ""
     decide(key)
 }

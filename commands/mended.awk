@@ -81,8 +81,8 @@ function tell(name, kind, on) {
     close_run(kind)
     printf "%s %.0f", name, stripes[kind]
     if (stripes[kind] > 0)
-        printf ": %s %s%s", stripes[kind] == 1 ? "stripe" : "stripes", named[kind], named[kind, "more"]
+        printf ": %s %s%s", (stripes[kind] == 1 ? "stripe" : "stripes"), named[kind], named[kind, "more"]
     if (on != "")
-        printf ", on %s %s", on ~ /,/ ? "drives" : "drive", on
+        printf ", on %s %s", (on ~ /,/ ? "drives" : "drive"), on
     printf "\n"
 }
