@@ -11,7 +11,7 @@ END {
     count = split(total, field, " ")
     if (count != 10 || field[6] != stripes["rebuilt"] + stripes["LOST"] || field[8] != stripes["UNCHECKED"] + 0 || field[10] != stripes["TORN"] + 0)
         exit 1
-    tell("rebuilt", "rebuilt", drives)
+    tell("rebuilt", "rebuilt", drives())
     tell("LOST", "LOST", "")
     tell("unchecked", "UNCHECKED", "")
     tell("torn", "TORN", "")
@@ -49,10 +49,15 @@ function pass(lost) {
 
 function rebuilt(first, last) {
     note("rebuilt", first, last)
-    if (!(drive in known)) {
-        known[drive] = 1
-        drives = drives (drives == "" ? "" : ", ") drive
-    }
+    mended[drive + 0] = 1
+}
+
+# The drives with a rebuilt block, as text.
+function drives(one, text) {
+    for (one = 0; one < 16; one++)
+        if (one in mended)
+            text = text (text == "" ? "" : ", ") one
+    return text
 }
 
 # Adds stripes to those of a kind, of which the first ten runs are named.
