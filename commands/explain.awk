@@ -85,10 +85,10 @@ function say(key, line) {
         fflush()
 }
 
-# How many lines of each kind were not told of.
+# How many lines of each kind were neither printed nor told of.
 function count_rest(key) {
     for (key in said)
-        if (said[key] > 10) {
+        if (lines == "none" && said[key] > 10) {
             print "And " (said[key] - 10) " more lines like " example[key]
             print ""
             said[key] = 10
