@@ -1,5 +1,5 @@
-//! Comparisons of the proved library and the report program with a model of their own, written from the standard and the rules,
-//! on many inputs.
+//! Comparisons of the proved library and the programs with a model of their own, written from the standard and the rules, on many
+//! inputs.
 
 mod compare;
 mod figures;
@@ -37,6 +37,9 @@ const PARTS: &[(&str, Comparison)] = &[
     ("intent", compare::intent::compare),
     ("images", compare::images::compare),
     ("large image", compare::large::compare),
+    ("repairs", compare::repairs::compare),
+    ("large repair", compare::large_repair::compare),
+    ("failed writes", compare::failed_writes::compare),
 ];
 
 fn main() -> ExitCode {

@@ -125,31 +125,40 @@ const REFUSED: [(u32, &[u8]); 87] = [
 ];
 
 /// The header of an image, of a version that can say its numbers.
-fn any_version(array: &Array, random: &mut Random) -> Vec<u8> {
+pub fn any_version(array: &Array, random: &mut Random) -> Vec<u8> {
     let first = report::first_version(array);
     let version = random.between(first.into(), LAST_VERSION.into());
     report::header_of(version as u8, array)
 }
 
-/// Writes an image in pieces that are random and small. Now and then it waits, so that the program reads less than it has room for.
-fn in_pieces(image: &[u8], input: &mut Input, random: &mut Random) -> Outcome<()> {
-    let longest = match image.len() {
+/// How long a piece of so many bytes may be.
+pub fn longest_piece(length: usize, random: &mut Random) -> usize {
+    match length {
         0..8_192 => random.pick(&[1, 7, 521, 4_096]),
         _ => random.pick(&[521, 4_096, 4_113, 70_000]),
-    };
+    }
+}
+
+/// Writes an image in pieces that are random and small. Now and then it waits, so that the program reads less than it has room for.
+pub fn in_pieces(image: &[u8], input: &mut Input, random: &mut Random) -> Outcome<()> {
+    let longest = longest_piece(image.len(), random);
     let mut rest = image;
     while !rest.is_empty() {
         let length = 1 + random.below(longest.min(rest.len()));
         let (piece, later) = rest.split_at(length);
         input.write(piece)?;
         rest = later;
-        match random.below(200) {
-            0 => thread::sleep(Duration::from_micros(50)),
-            1..10 => thread::yield_now(),
-            _ => {}
-        }
+        now_and_then_wait(random);
     }
     Ok(())
+}
+
+pub fn now_and_then_wait(random: &mut Random) {
+    match random.below(200) {
+        0 => thread::sleep(Duration::from_micros(50)),
+        1..10 => thread::yield_now(),
+        _ => {}
+    }
 }
 
 /// The letters of a line, as the tally has them.
@@ -202,6 +211,13 @@ pub fn same_report(due: &str, found: &str) -> Outcome<()> {
     ))
 }
 
+/// Says which image a difference is of.
+pub fn of_image(what: &str, image: &[u8], difference: String) -> String {
+    let header = &image[..image.len().min(11)];
+    let length = image.len();
+    format!("{what}, {length} bytes, header {header:02X?}: {difference}")
+}
+
 /// How many images were compared, and what their lines were.
 #[derive(Default)]
 struct Compared {
@@ -209,17 +225,13 @@ struct Compared {
     lines: Tally,
 }
 
-impl Compared {
+impl Judge for Compared {
     fn compare(&mut self, what: &str, image: &[u8], random: &mut Random) -> Outcome<()> {
         let due = report::report(image);
         let compared = program::piped(|input| in_pieces(image, input, random), program::text);
         compared
             .and_then(|((), found)| same_report(&due, &found))
-            .map_err(|difference| {
-                let header = &image[..image.len().min(11)];
-                let length = image.len();
-                format!("{what}, {length} bytes, header {header:02X?}: {difference}")
-            })?;
+            .map_err(|difference| of_image(what, image, difference))?;
         self.images += 1;
         let method = method_of(image);
         for line in due.lines() {
@@ -228,6 +240,11 @@ impl Compared {
         }
         Ok(())
     }
+}
+
+/// Compares a program with its model, an image at a time.
+pub trait Judge {
+    fn compare(&mut self, what: &str, image: &[u8], random: &mut Random) -> Outcome<()>;
 
     /// An image whose verdicts are known from the damage that was done.
     fn known(
@@ -330,7 +347,7 @@ fn one_set(case: &mut Case, random: &mut Random) -> Verdict {
 fn verdicts(
     members: usize,
     method: u8,
-    compared: &mut Compared,
+    compared: &mut impl Judge,
     random: &mut Random,
 ) -> Outcome<()> {
     let of = |stripes| (members, method, stripes);
@@ -386,7 +403,7 @@ fn any_image(array: &Array, random: &mut Random) -> Vec<u8> {
 fn ends(
     members: usize,
     (version, method): (u8, u8),
-    compared: &mut Compared,
+    compared: &mut impl Judge,
     random: &mut Random,
 ) -> Outcome<()> {
     let array = Array {
@@ -430,7 +447,7 @@ fn ends(
 }
 
 /// Headers that are refused, alone and with a stripe behind them.
-fn refused_headers(compared: &mut Compared, random: &mut Random) -> Outcome<()> {
+pub fn refused_headers(compared: &mut impl Judge, random: &mut Random) -> Outcome<()> {
     for (number, header) in REFUSED {
         let due = format!("REFUSED {number}\n");
         for length in [0, 1, 3 * 520, 3 * 4_112] {
@@ -510,7 +527,7 @@ fn stripes_in(image: &[u8]) -> Range<usize> {
 }
 
 /// A header in which one or two fields are others; now and then it is cut, or something follows.
-fn any_header(compared: &mut Compared, random: &mut Random) -> Outcome<()> {
+fn any_header(compared: &mut impl Judge, random: &mut Random) -> Outcome<()> {
     let mut image = any_version(&any_array(random), random);
     let header = image.len();
     for _ in 0..random.between(1, 2) {
@@ -550,7 +567,7 @@ fn any_array(random: &mut Random) -> Array {
 }
 
 /// Stripes of all kinds; often the image is whole, else it is cut, goes on, or has another number of stripes in its header.
-fn any_stripes(compared: &mut Compared, random: &mut Random) -> Outcome<()> {
+fn any_stripes(compared: &mut impl Judge, random: &mut Random) -> Outcome<()> {
     let array = any_array(random);
     let mut image = any_image(&array, random);
     match random.below(6) {
@@ -572,14 +589,16 @@ fn any_stripes(compared: &mut Compared, random: &mut Random) -> Outcome<()> {
     compared.compare("random", &image, random)
 }
 
-pub fn compare(random: &mut Random) -> Outcome<String> {
-    let mut compared = Compared::default();
-    compared.compare("empty", &[], random)?;
-    refused_headers(&mut compared, random)?;
-    every_number(&mut compared, random)?;
+/// Images with stripes of every kind by these methods, whole and cut; so many have a random header, and so many random stripes, by any method.
+pub fn each(
+    compared: &mut impl Judge,
+    methods: &[u8],
+    (headers, images): (usize, usize),
+    random: &mut Random,
+) -> Outcome<()> {
     for members in MEMBERS {
-        for method in cases::METHODS {
-            verdicts(members, method, &mut compared, random)?;
+        for method in methods {
+            verdicts(members, *method, compared, random)?;
         }
         for said in [
             (1, 1),
@@ -593,15 +612,26 @@ pub fn compare(random: &mut Random) -> Outcome<String> {
             (4, 2),
             (4, 3),
         ] {
-            ends(members, said, &mut compared, random)?;
+            if methods.contains(&said.1) {
+                ends(members, said, compared, random)?;
+            }
         }
     }
-    for _ in 0..HEADERS {
-        any_header(&mut compared, random)?;
+    for _ in 0..headers {
+        any_header(compared, random)?;
     }
-    for _ in 0..IMAGES {
-        any_stripes(&mut compared, random)?;
+    for _ in 0..images {
+        any_stripes(compared, random)?;
     }
+    Ok(())
+}
+
+pub fn compare(random: &mut Random) -> Outcome<String> {
+    let mut compared = Compared::default();
+    compared.compare("empty", &[], random)?;
+    refused_headers(&mut compared, random)?;
+    every_number(&mut compared, random)?;
+    each(&mut compared, &cases::METHODS, (HEADERS, IMAGES), random)?;
     compared.lines.of("lines", "512 1 2 10 12 13")?;
     Ok(format!(
         "{} of all versions alike, through a pipe in small writes: {}",

@@ -1,8 +1,9 @@
-//! Comparisons of the library and the report program with the model.
+//! Comparisons of the library and the programs with the model.
 
 pub mod cases;
 pub mod checksum;
 pub mod crc32c;
+pub mod failed_writes;
 pub mod faults;
 pub mod guard;
 pub mod images;
@@ -10,10 +11,12 @@ pub mod intent;
 pub mod join;
 pub mod kernel;
 pub mod large;
+pub mod large_repair;
 pub mod layout;
 pub mod life;
 pub mod md;
 pub mod patrol;
+pub mod repairs;
 mod runs;
 pub mod scan;
 pub mod scrub;

@@ -8,6 +8,7 @@ pub mod intent;
 pub mod join;
 pub mod layout;
 pub mod patrol;
+pub mod repair;
 pub mod report;
 pub mod scan;
 pub mod stripe;

@@ -41,8 +41,8 @@ pub fn header_of(version: u8, array: &Array) -> Vec<u8> {
     [&length.to_be_bytes()[..], &rest].concat()
 }
 
-/// The array that the header of an image speaks of, and what follows the header.
-fn opened(image: &[u8]) -> Answer<(Array, &[u8])> {
+/// The array that the header of an image speaks of, whatever its numbers are, and what follows the header.
+pub(super) fn opened(image: &[u8]) -> Answer<(Array, &[u8])> {
     let following = match *image {
         [0, length @ 7..=9, version @ 1..=3, ..] if length == version + 6 => length.into(),
         [0, 13, 4, ..] => 13,
@@ -60,7 +60,7 @@ fn opened(image: &[u8]) -> Answer<(Array, &[u8])> {
         method: more.first().copied().unwrap_or(1),
         row: more.get(1).copied().unwrap_or(1),
     };
-    array.fits().map(|()| (array, body))
+    Ok((array, body))
 }
 
 /// The lines of a report, in the order in which the stripes come.
@@ -94,28 +94,14 @@ impl Report {
     /// The line of the next stripe.
     pub fn stripe_line(&mut self, bytes: &[u8]) -> String {
         let stripe = self.clean + self.bad + self.unchecked + self.torn;
-        match stripe::scrub(&self.array, stripe, bytes).expect("a whole stripe of the array") {
-            Verdict::Clean => {
-                self.clean += 1;
-                format!("{stripe} CLEAN\n")
-            }
-            Verdict::Bad {
-                member,
-                count,
-                fits,
-            } => {
-                self.bad += 1;
-                format!("{stripe} BAD {member} {count} {}\n", letters(fits))
-            }
-            Verdict::Unchecked { member, count } => {
-                self.unchecked += 1;
-                format!("{stripe} UNCHECKED {member} {count}\n")
-            }
-            Verdict::Torn { place } => {
-                self.torn += 1;
-                format!("{stripe} TORN {place}\n")
-            }
+        let verdict = stripe::scrub(&self.array, stripe, bytes).expect("a whole stripe");
+        match verdict {
+            Verdict::Clean => self.clean += 1,
+            Verdict::Bad { .. } => self.bad += 1,
+            Verdict::Unchecked { .. } => self.unchecked += 1,
+            Verdict::Torn { .. } => self.torn += 1,
         }
+        line(stripe, verdict)
     }
 
     pub fn total_line(&self) -> String {
@@ -128,6 +114,20 @@ impl Report {
         } = self;
         let stripes = array.stripes;
         format!("TOTAL {stripes} clean {clean} bad {bad} unchecked {unchecked} torn {torn}\n")
+    }
+}
+
+/// The line of a stripe.
+pub fn line(stripe: u64, verdict: Verdict) -> String {
+    match verdict {
+        Verdict::Clean => format!("{stripe} CLEAN\n"),
+        Verdict::Bad {
+            member,
+            count,
+            fits,
+        } => format!("{stripe} BAD {member} {count} {}\n", letters(fits)),
+        Verdict::Unchecked { member, count } => format!("{stripe} UNCHECKED {member} {count}\n"),
+        Verdict::Torn { place } => format!("{stripe} TORN {place}\n"),
     }
 }
 
@@ -144,13 +144,14 @@ pub fn letters(fits: Fits) -> String {
         .collect()
 }
 
-fn refused_line(number: u32) -> String {
+pub fn refused_line(number: u32) -> String {
     format!("REFUSED {number}\n")
 }
 
 /// The whole report on an image.
 pub fn report(image: &[u8]) -> String {
-    let (array, body) = match opened(image) {
+    let fit = |(array, body): (Array, _)| array.fits().map(|()| (array, body));
+    let (array, body) = match opened(image).and_then(fit) {
         Ok(opened) => opened,
         Err(number) => return refused_line(number),
     };
