@@ -293,23 +293,36 @@ fn refused_headers(repairs: &mut Repairs, random: &mut Random) -> Outcome<()> {
     Ok(())
 }
 
-/// Every method, before a stripe sealed by the first: only two of them are repaired, and by the second this stripe is not clean.
-fn every_method(repairs: &mut Repairs, random: &mut Random) -> Outcome<()> {
-    for method in 0..=u8::MAX {
-        let header = [0, 8, 2, 3, 7, 0, 0, 0, 1, method];
-        let image = [&header[..], &outlined()].concat();
-        let due = match method {
-            1 => Repaired {
-                image: image.clone(),
-                list: String::new(),
+/// Every method, and every row length by methods 1 and 3, before a stripe sealed by the first method: by the second it is not clean.
+fn every_number(repairs: &mut Repairs, random: &mut Random) -> Outcome<()> {
+    for number in 0..=u8::MAX {
+        let methods = (
+            [0, 8, 2, 3, 7, 0, 0, 0, 1, number].to_vec(),
+            match number {
+                1 => Ok(""),
+                2 => Ok("0 LOST\n"),
+                _ => Err(12),
             },
-            2 => Repaired {
-                image: image.clone(),
-                list: String::from("0 LOST\n"),
+        );
+        let rows = (
+            [0, 9, 3, 3, 7, 0, 0, 0, 1, 1, number].to_vec(),
+            match number {
+                1 => Ok(""),
+                _ => Err(13),
             },
-            _ => refused(12),
-        };
-        repairs.foreseen("every method", &image, &due, random)?;
+        );
+        let large = ([0, 9, 3, 3, 7, 0, 0, 0, 1, 3, number].to_vec(), Err(12));
+        for (header, due) in [methods, rows, large] {
+            let image = [header, outlined()].concat();
+            let due = match due {
+                Ok(list) => Repaired {
+                    image: image.clone(),
+                    list: String::from(list),
+                },
+                Err(number) => refused(number),
+            };
+            repairs.foreseen("every number", &image, &due, random)?;
+        }
     }
     Ok(())
 }
@@ -615,7 +628,7 @@ pub fn compare(random: &mut Random) -> Outcome<String> {
     outline(&mut repairs, random)?;
     images::refused_headers(&mut repairs, random)?;
     refused_headers(&mut repairs, random)?;
-    every_method(&mut repairs, random)?;
+    every_number(&mut repairs, random)?;
     known_fates(&mut repairs, random)?;
     long_list(random)?;
     images::each(&mut repairs, &METHODS, (HEADERS, IMAGES), random)?;
