@@ -104,10 +104,17 @@ calls! {
 // SAFETY, for every call: each pointer comes with the length of its own buffer, which is lent for the call alone,
 // and is not const only where the header lets the call write.
 
-/// A call on the array of this program, by a guard method. The array's numbers go first, one by one. No call is handed them elsewhere.
+/// A call on an array of so many members, by a guard method. The array's numbers go first, one by one. No call is handed them elsewhere.
+macro_rules! on_members {
+    ($members:expr, $archive:ident, $call:ident, $method:expr, $($rest:expr),+) => {
+        unsafe { ($archive::CALLS.$call)($members, STRIPES, VOLUME, $method, ROW, $($rest),+) }
+    };
+}
+
+/// A call on the array of this program.
 macro_rules! on_array {
-    ($archive:ident, $call:ident, $method:expr, $($rest:expr),+) => {
-        unsafe { ($archive::CALLS.$call)(MEMBERS, STRIPES, VOLUME, $method, ROW, $($rest),+) }
+    ($($rest:tt)+) => {
+        on_members!(MEMBERS, $($rest)+)
     };
 }
 
@@ -135,11 +142,27 @@ pub fn join<A: Archive>(a: u16, b: u16, length_of_b: u32) -> u16 {
     unsafe { (A::CALLS.join)(a, b, length_of_b) }
 }
 
-/// Makes a stripe of its data. Gives the refusal.
-pub fn seal<A: Archive>(method: u8, stripe: u64, data: &[u8], bytes: &mut [u8]) -> u32 {
+/// Makes a stripe of its data, for so many members. Gives the refusal.
+pub fn seal<A: Archive>(
+    members: usize,
+    method: u8,
+    stripe: u64,
+    data: &[u8],
+    bytes: &mut [u8],
+) -> u32 {
     let (from, from_length) = (data.as_ptr(), data.len());
     let (to, to_length) = (bytes.as_mut_ptr(), bytes.len());
-    on_array!(A, seal, method, stripe, from, from_length, to, to_length)
+    on_members!(
+        members,
+        A,
+        seal,
+        method,
+        stripe,
+        from,
+        from_length,
+        to,
+        to_length
+    )
 }
 
 /// Gives the refusal.

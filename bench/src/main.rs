@@ -1,4 +1,4 @@
-//! The speed of the library and of the report program beside their peers, as tables in markdown.
+//! The speed of the library and of the programs beside their peers, as tables in markdown.
 
 mod joins;
 mod library;
@@ -7,6 +7,7 @@ mod peers;
 #[allow(dead_code)]
 #[path = "../../tests/src/random.rs"]
 mod random;
+mod repair;
 mod report;
 mod rows;
 mod stripes;
@@ -23,24 +24,33 @@ fn main() {
     let words: Vec<String> = env::args().skip(1).collect();
     match words.iter().map(String::as_str).collect::<Vec<_>>()[..] {
         [report::PEER, name] => report::peer(name).expect("the image is whole"),
-        [plain, v3] => measure([Path::new(plain), Path::new(v3)]),
-        _ => panic!("two words wanted: the paths of the report program, plain and for v3"),
+        [report, report_v3, repair, repair_v3] => measure(
+            [report, report_v3].map(Path::new),
+            [repair, repair_v3].map(Path::new),
+        ),
+        _ => panic!(
+            "four words wanted: the paths of the report program, plain and for v3, and those of the repair program"
+        ),
     }
 }
 
-fn measure(programs: [&Path; 2]) {
+/// The programs are plain and for v3.
+fn measure(report: [&Path; 2], repair: [&Path; 2]) {
     ROWS.iter().for_each(timing::compare);
-    report::compare(programs);
+    report::compare(report);
+    repair::compare(repair);
     machine::print();
     println!();
     jobs();
     println!();
     joins();
-    let times = report::measure(programs);
+    let times = report::measure(report);
     println!();
     reports(&times);
     println!();
     shares(&times);
+    println!();
+    repairs(report, repair);
 }
 
 /// The rate of the first as a multiple of the second's: above 1 the first is faster.
@@ -211,5 +221,30 @@ fn shares(times: &report::Times) {
         });
         table.row([name.to_string()].into_iter().chain(cells).collect());
     }
+    table.print(1);
+}
+
+fn repairs(report: [&Path; 2], repair: [&Path; 2]) {
+    let mut table = Table::new(&["program", "members", "ms", "MB/s", "× cat", "× report"]);
+    for members in repair::MEMBERS {
+        let times = repair::measure(members, report, repair);
+        for (who, time) in repair::NAMES.iter().zip(times.programs) {
+            let words = [who.to_string(), members.to_string()];
+            let megabytes = time.map(|time| times.bytes as f64 * 1e3 / time);
+            let numbers = [
+                time.map(|time| time / 1e6),
+                megabytes,
+                rate(time, times.programs[repair::CAT]),
+                rate(time, times.programs[repair::REPORT]),
+            ];
+            table.row(words.into_iter().chain(numbers.map(known)).collect());
+        }
+    }
+    println!(
+        "The repair of a clean image of {} MiB through a pipe, to /dev/null and into a pipe that is read, best of {} rounds:",
+        repair::IMAGE >> 20,
+        repair::ROUNDS
+    );
+    println!();
     table.print(1);
 }

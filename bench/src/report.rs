@@ -6,7 +6,7 @@ use crate::random::{self, Random};
 use crate::rows::{
     CONTESTANTS, ISAL, ISAL_V3, MEMCPY, ORDINARY, PLAIN, Room, V3, copy_stripe, guards,
 };
-use crate::stripes::{CRC, MEMBERS, STRIPE, VOLUME, Verdict, blocks, damage, seal};
+use crate::stripes::{BLOCK, CRC, MEMBERS, STRIPE, VOLUME, Verdict, blocks, damage, seal};
 use crate::timing::{is_here, keep, timed};
 use std::env;
 use std::hint::black_box;
@@ -21,7 +21,7 @@ pub const ROUNDS: usize = 15;
 /// The stripes of the image: 64 MiB.
 const IMAGE: usize = (64 << 20) / STRIPE;
 
-/// The stripes of the image, some of them damaged, on which the programs are compared.
+/// The stripes of the image, some of them damaged, on which programs are compared.
 const COMPARED: usize = 300;
 
 /// The word that makes this program a peer's report program.
@@ -46,16 +46,20 @@ pub struct Times {
 
 /// The report programs agree on an image with damaged stripes.
 pub fn compare(programs: [&Path; 2]) {
-    let mut random = Random::new(random::seed());
-    let mut image = image(COMPARED, &mut random);
+    agree(programs, &damaged(&mut Random::new(random::seed())));
+}
+
+/// An image with damaged stripes.
+pub fn damaged(random: &mut Random) -> Vec<u8> {
+    let mut image = image(MEMBERS, COMPARED, random);
     for (number, bytes) in image[HEADER..].chunks_exact_mut(STRIPE).enumerate() {
-        damage(CRC, number as u64, bytes, &mut random);
+        damage(CRC, number as u64, bytes, random);
     }
-    agree(programs, &image);
+    image
 }
 
 pub fn measure(programs: [&Path; 2]) -> Times {
-    let image = image(IMAGE, &mut Random::new(random::seed()));
+    let image = image(MEMBERS, IMAGE, &mut Random::new(random::seed()));
     agree(programs, &image);
     let mut times = Times {
         bytes: image.len(),
@@ -105,11 +109,12 @@ fn inside<A: Archive>(image: &[u8], room: &mut Room, times: &mut Times, who: usi
     keep(&mut times.scans[who], scans);
 }
 
-fn image(stripes: usize, random: &mut Random) -> Vec<u8> {
-    let mut image = vec![0x00, 0x07, 0x01, MEMBERS as u8, VOLUME];
+/// A clean image of so many members and stripes.
+pub fn image(members: usize, stripes: usize, random: &mut Random) -> Vec<u8> {
+    let mut image = vec![0x00, 0x07, 0x01, members as u8, VOLUME];
     image.extend((stripes as u32).to_be_bytes());
-    image.resize(HEADER + stripes * STRIPE, 0);
-    seal(CRC, &mut image[HEADER..], random);
+    image.resize(HEADER + stripes * members * BLOCK, 0);
+    seal(members, CRC, &mut image[HEADER..], random);
     image
 }
 
@@ -126,7 +131,7 @@ fn command(who: usize, programs: [&Path; 2]) -> Command {
 }
 
 /// Runs a program on an image that a thread writes into its input, until it has ended. Gives what it wrote.
-fn run(command: &mut Command, image: &[u8], output: Stdio) -> Vec<u8> {
+pub fn run(command: &mut Command, image: &[u8], output: Stdio) -> Vec<u8> {
     let mut child = command
         .stdin(Stdio::piped())
         .stdout(output)

@@ -87,12 +87,13 @@ pub fn blocks(bytes: &[u8]) -> impl Iterator<Item = &[u8]> {
     bytes.chunks_exact(BLOCK)
 }
 
-/// Fills a buffer with whole stripes of random data, numbered from 0, whose guards are of a method.
-pub fn seal(method: u8, bytes: &mut [u8], random: &mut Random) {
-    let mut data = vec![0; (MEMBERS - 1) * lengths(method).0];
-    for (stripe, bytes) in bytes.chunks_exact_mut(stripe_length(method)).enumerate() {
+/// Fills a buffer with whole stripes of random data, numbered from 0, of so many members, whose guards are of a method.
+pub fn seal(members: usize, method: u8, bytes: &mut [u8], random: &mut Random) {
+    let (data, block) = lengths(method);
+    let mut data = vec![0; (members - 1) * data];
+    for (stripe, bytes) in bytes.chunks_exact_mut(members * block).enumerate() {
         random.fill(&mut data);
-        let refusal = library::seal::<Plain>(method, stripe as u64, &data, bytes);
+        let refusal = library::seal::<Plain>(members, method, stripe as u64, &data, bytes);
         assert_eq!(refusal, 0, "a stripe is sealed");
     }
 }

@@ -46,7 +46,12 @@ impl Stripes {
         let length = stripe_length(method);
         let mut bytes = vec![0; count * length + 64];
         let from = bytes.as_ptr().align_offset(64);
-        seal(method, &mut bytes[from..from + count * length], random);
+        seal(
+            MEMBERS,
+            method,
+            &mut bytes[from..from + count * length],
+            random,
+        );
         Stripes {
             bytes,
             from,
