@@ -529,16 +529,13 @@ fn stripes_in(image: &[u8]) -> Range<usize> {
 /// A header in which one or two fields are others; now and then it is cut, or something follows.
 fn any_header(compared: &mut impl Judge, random: &mut Random) -> Outcome<()> {
     let mut image = any_version(&any_array(random), random);
-    let header = image.len();
+    let (header, stripes) = (image.len(), stripes_in(&image));
     for _ in 0..random.between(1, 2) {
         let place = random.pick(&[0, 1, 2, 3, 3, 5, 5, header - 2, header - 1, header - 1]);
         image[place] = random.next() as u8;
     }
     match random.below(24) {
-        0..3 => {
-            let lowest = stripes_in(&image).end - 1;
-            image[lowest] = 0;
-        }
+        0..3 => image[stripes.end - 1] = 0,
         3 => image[1] = random.pick(&[7, 8, 9, 13]),
         4 => image[2] = random.pick(&[1, 2, 3, 4]),
         _ => {}
