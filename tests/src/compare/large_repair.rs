@@ -20,7 +20,7 @@ const TURN: usize = 1 << 20;
 const PIECE: usize = 192 << 10;
 /// The most memory that the program may hold, and by how much it may differ between the two images, as the system counts only roughly; in KiB.
 const MOST: u64 = 4_096;
-const SPREAD: u64 = 256;
+const SPREAD: u64 = 512;
 
 /// Stripes of a whole number of the parity's rounds. Behind them the same come again, but for their reference tags: those count on, and nothing else
 /// depends on where a stripe lies.
