@@ -96,7 +96,7 @@ module _ (b : List ℕ) (e : length b ≡ 512) where
 
 -- ---- the register, as it is read
 
-leads : (r : ℕ) → r < 2 ^ 16 → seen (act leading r) ≡ on 64 r
+pub leads : (r : ℕ) → r < 2 ^ 16 → seen (act leading r) ≡ on 64 r
 unfolding rest on feed bits bitStep
 leads = agree (λ r. seen (act leading r)) (on 64) (λ x y. ap seen (act-linear leading x y) ∙ rest-act turning (act leading x) (act leading y)) (on-linear 64) 16 refl
 

@@ -4,5 +4,6 @@ pub mod Rows
 pub mod Quads
 pub mod Shortened
 pub mod Blocks
+pub mod Wordwise
 pub mod Stored
 pub mod Strides

@@ -26,7 +26,7 @@ abbrev pub placed : ℕ → Map
 placed zero = same
 placed (suc i) = up (8 * suc i) same
 
-byte-linear : (x y : ℕ) → guard (bitXor x y ∷ []) ≡ bitXor (guard (x ∷ [])) (guard (y ∷ []))
+pub byte-linear : (x y : ℕ) → guard (bitXor x y ∷ []) ≡ bitXor (guard (x ∷ [])) (guard (y ∷ []))
 unfolding xors
 byte-linear x y = guard-linear (x ∷ []) (y ∷ []) refl
 

@@ -4,7 +4,7 @@ ghost use Rattle.words.specs.Words.{rest, after, act};
 ghost use Rattle.words.specs.Steps.{turning, quad};
 
 // A word moved on by 64 bits, and another added.
-fn past_word(v: u64, added: u64) -> u64
+pub fn past_word(v: u64, added: u64) -> u64
     ensures { λ r. ⌜ rest r ≡ after 64 (rest v) (rest added) ⌝ }
 {
     let high = v >> 37;
