@@ -2,14 +2,23 @@
 use mathlib.Core.Path.{_≡_, refl, sym, ap, _∙_}
 use mathlib.Core.Bool.{Bool, true, false, cond, _&&_}
 use mathlib.Core.List.{List, [], _∷_}
-use Prim.Native.Nat.{ℕ, zero, suc, _+_, _<_}
-use native.Mathlib.Nat.{le-of-suc-le-suc, not-suc-le-zero}
+use Prim.Native.Nat.{ℕ, zero, suc, _+_, _≤_, _<_}
+use native.Mathlib.Nat.{le-trans, le-of-suc-le-suc, not-suc-le-zero}
 use native.Mathlib.Decide.{ℕ-discrete, decLt}
 use native.Mathlib.Omega.{arith}
+use borrow.Author.Count.{below-more}
 use borrow.Author.Tests.{eq-eqb, ne-eqb}
 use lib.Dec.{eqb}
 use lib.ListN.{length, getD, set}
+use lib.Bits.{bitOr, or-add-and, and-le-l, and-le-r}
 use lib.Seq.{getD-set-same, getD-set-other}
+
+-- none of those passed is above their bits together, with one more passed
+pub bits-of-all : (l : List ℕ) (i all : ℕ) → ((k : ℕ) → k < i → getD l k 0 ≤ all) → (k : ℕ) → k < i + 1 → getD l k 0 ≤ bitOr all (getD l i 0)
+bits-of-all l i all old =
+    let x = getD l i 0 in
+    let more : all ≤ bitOr all x = omega (arith, or-add-and all x, and-le-r all x) in
+    below-more (λ (k : ℕ). getD l k 0 ≤ bitOr all x) i (λ k h. le-trans (old k h) more) (omega (arith, or-add-and all x, and-le-l all x))
 
 -- what holds of all passed, with one more passed
 pub still-all : (P : ℕ → Bool) (l : List ℕ) (i : ℕ) (flag next : Bool) → next ≡ (flag && P (getD l i 0))

@@ -5,6 +5,7 @@ ghost use mathlib.Core.Bool.{true, false, cond, _&&_};
 ghost use lib.Dec.{eqb};
 ghost use lib.ListN.{length, getD, set};
 ghost use lib.Seq.{sets};
+ghost use Rattle.format.specs.Formats.{pieceLength};
 ghost use Rattle.format.specs.Methods.{formatOf};
 ghost use Rattle.tag.specs.Blocks.{formatAt};
 ghost use Rattle.scan.specs.Steps.{combinedFrom, tagsFrom};
@@ -14,6 +15,7 @@ use crate::Taken;
 use crate::fit;
 use crate::tag_at;
 use copy::put;
+use format::PIECE;
 use format::USUAL_TAG;
 use format::data_room;
 use format::register_of;
@@ -44,18 +46,18 @@ fn none_past(at: &[u16], end: u16) -> bool
     none
 }
 
-// Whether of all sixteen values none is above the most that there may be.
+// Whether of all sixteen values none is above the most that there may be: told by the bits of all together, if they are no more than that.
 fn none_above(register: &[u32], most: u32) -> bool
     requires { ⌜ length (now register) ≡ 16 ⌝ }
     ensures { λ r. ⌜ (r ≡ true → (i : ℕ) → i < 16 → getD (now (register .entry)) i 0 ≤ most) ⌝ }
 {
-    let mut none = true;
+    let mut all: u32 = 0;
     let mut i: usize = 0;
     while i < 16 {
-        none = still(none, register[i] <= most);
+        all = all | register[i];
         i += 1;
     }
-    none
+    all <= most
 }
 
 // Whether for none of all sixteen a byte waits.
@@ -223,19 +225,20 @@ fn pass_on(
     after
 }
 
-// The same of a whole block for which nothing was taken: nothing is cut, and no number waits for the state.
+// The same of a whole block of one piece of data, for which nothing was taken: nothing is cut, no number waits for the state, and the length is one
+// that the compiler knows.
 fn pass_whole(method: u8, member: usize, bytes: &[u8], work: &mut [u8], tag: &mut [u8]) -> u32
     requires { ⌜ member < 16 ⌝ }
     requires { ⌜ length (now bytes) ≡ formatOf method .blockLength ⌝ }
     requires { ⌜ length (now work) ≡ formatOf method .dataLength ⌝ }
+    requires { ⌜ formatOf method .dataLength ≡ pieceLength ⌝ }
     ensures { λ r. ⌜ r ≡ formatOf method .advance 0 (formatOf method .start) (dataOfPiece (formatOf method) 0 (now (bytes .entry))) ⌝ }
     ensures { λ _. ⌜ now (work .exit) ≡ combinedFrom (formatOf method) 0 (now (work .entry)) (now (bytes .entry)) ⌝ }
     ensures { λ _. ⌜ now (tag .exit) ≡ tagsFrom (formatOf method) 0 (now (tag .entry)) member (now (bytes .entry)) ⌝ }
 {
-    let data = format::data_length(method);
     let block = format::block_length(method);
-    let head = &bytes[0..data];
-    put_tag(tag, tag_at(method, member), &bytes[data..block]);
+    let head = &bytes[0..PIECE];
+    put_tag(tag, tag_at(method, member), &bytes[PIECE..block]);
     let after = format::advance(method, 0, format::start(method), head);
     xor::xor_into(work, head);
     after
@@ -258,9 +261,11 @@ fn pass(
     ensures { λ _. ⌜ now (work .exit) ≡ combinedFrom (formatOf method) position (now (work .entry)) (now (bytes .entry)) ⌝ }
     ensures { λ _. ⌜ now (tag .exit) ≡ tagsFrom (formatOf method) position (now (tag .entry)) member (now (bytes .entry)) ⌝ }
 {
-    if bytes.len() == format::block_length(method) {
-        if register == format::start(method) {
-            return pass_whole(method, member, bytes, work, tag);
+    if format::data_length(method) == PIECE {
+        if bytes.len() == format::block_length(method) {
+            if register == format::start(method) {
+                return pass_whole(method, member, bytes, work, tag);
+            }
         }
     }
     pass_on(method, member, position, register, bytes, work, tag)

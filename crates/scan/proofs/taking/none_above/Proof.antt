@@ -1,33 +1,28 @@
--- `scan::taking::none_above` meets its contract. The invariant: as long as the flag stands, none of those passed is above the most. Assumes nothing.
-use mathlib.Core.Path.{_≡_}
-use mathlib.Core.Bool.{true}
+-- `scan::taking::none_above` meets its contract. The invariant: none of those passed is above the bits of all of them. Assumes nothing.
 use Prim.Native.Nat.{ℕ, _-_, _≤_, _<_}
+use native.Mathlib.Nat.{le-trans}
 use native.Mathlib.Omega.{arith}
 use borrow.Author.Tests.{leb-true}
-use lib.Dec.{leb}
 use lib.ListN.{getD}
-use Rattle.scan.proofs.Replacing.{still-all}
+use Rattle.scan.proofs.Replacing.{bits-of-all}
 use borrow.Author.Needs.{needs}
 use Rattle.scan.proofs.taking.none_above.Statement.{statement}
 use Rattle.scan.proofs.taking.none_above.Tie as tie
 
 abbrev Inv-loop : tie.InvT-loop
-Inv-loop register most none₀ i₀ none i = (i ≤ 16) × (none ≡ true → (k : ℕ) → k < i → leb (getD register k 0) most ≡ true)
+Inv-loop register most all₀ i₀ all i = (i ≤ 16) × ((k : ℕ) → k < i → getD register k 0 ≤ all)
 
 abbrev μ-loop : tie.MeasureT-loop
-μ-loop register most none₀ i₀ none i = 16 - i
+μ-loop register most all₀ i₀ all i = 16 - i
 
 loop-holds : tie.Need-loop-holds Inv-loop μ-loop
-loop-holds c = (omega arith, λ e k h. absurd (omega arith))
+loop-holds c = (omega arith, λ k h. absurd (omega arith))
 
-mul-still : tie.Need-mul-still Inv-loop μ-loop
-mul-still c = search needs
+mul-all : tie.Need-mul-all Inv-loop μ-loop
+mul-all c = search needs
 
-shared-slice-read-still : tie.Need-shared-slice-read-still Inv-loop μ-loop
-shared-slice-read-still c = search needs
-
-still-requires : tie.Need-still-requires Inv-loop μ-loop
-still-requires c κs = search needs
+shared-slice-read-all : tie.Need-shared-slice-read-all Inv-loop μ-loop
+shared-slice-read-all c = search needs
 
 add-i : tie.Need-add-i Inv-loop μ-loop
 add-i c = search needs
@@ -37,15 +32,15 @@ loop-less c = search needs
 
 loop-again : tie.Need-loop-again Inv-loop μ-loop
 loop-again c =
-    let at = c .before .before .before .loop in
-    let a = c .before .before .before .before .before .args in
-    (omega arith, still-all (λ (x : ℕ). leb x (a .most)) (a .register .now) (at .i) (at .none) (c .still .result) (c .still .ensures) (at .inv .1))
+    let at = c .before .before .loop in
+    let a = c .before .before .before .args in
+    (omega arith, bits-of-all (a .register .now) (at .i) (at .all) (at .inv .1))
 
 returns : tie.Need-returns Inv-loop μ-loop
 returns c =
     let at = c .before .loop in
-    let a = c .before .before .before .args in
-    λ yes-all k h. leb-true (getD (a .register .now) k 0) (a .most) (at .inv .1 yes-all k (omega arith))
+    let a = c .before .before .args in
+    λ most k h. le-trans (at .inv .1 k (omega arith)) (leb-true (at .all) (a .most) most)
 
 pub none-above-spec : {M : Type 1} → statement M
 none-above-spec =
@@ -54,9 +49,8 @@ none-above-spec =
     Inv-loop
     μ-loop
     loop-holds
-    mul-still
-    shared-slice-read-still
-    still-requires
+    mul-all
+    shared-slice-read-all
     add-i
     loop-less
     loop-again

@@ -7,6 +7,9 @@ use borrow.Author.Needs.{needs}
 use Rattle.scan.proofs.taking.pass.Statement.{statement}
 use Rattle.scan.proofs.taking.pass.Tie as tie
 
+data-length-requires : tie.Need-data-length-requires
+data-length-requires c κs = search needs
+
 block-length-requires : tie.Need-block-length-requires
 block-length-requires c κs = search needs
 
@@ -27,11 +30,11 @@ returns c =
     let w = c .before .before .before .before in
     let i = w .before .before .before in
     let b = i .before .before .before in
-    let s = b .before .before .before .before in
+    let s = b .before .before .before .before .before .before in
     let a = s .args in
-    let here : 0 ≡ a .position = omega (arith, s .pre .1 .0, b .block-length .ensures, i .before .before .if1 .taken) in
+    let here : 0 ≡ a .position = omega (arith, s .pre .1 .0, b .block-length .ensures, i .before .before .if2 .taken) in
     passed-alike (formatOf (a .method)) (a .member) (w .pass-whole .result) (a .work .now) _ (a .tag .now) _ (a .position) 0 (a .register) (formatOf (a .method) .start)
-    (a .bytes .now) (a .bytes .now) here (sym (i .if2 .taken ∙ i .before .start .ensures)) refl (w .pass-whole .ensures)
+    (a .bytes .now) (a .bytes .now) here (sym (i .if3 .taken ∙ i .before .start .ensures)) refl (w .pass-whole .ensures)
 
 pass-on-requires : tie.Need-pass-on-requires
 pass-on-requires c κs = search needs
@@ -49,6 +52,7 @@ pub pass-spec : {M : Type 1} → statement M
 pass-spec =
     tie.close
     (tie.spec
+    data-length-requires
     block-length-requires
     start-requires
     pass-whole-requires
