@@ -157,28 +157,29 @@ fn standing_by(
     tag::standing(array.method, found, expected)
 }
 
-// How a member's block stands at its place.
-fn standing(array: Array, stripe: u64, bytes: &[u8], member: usize) -> u8
+// How a member's block stands at its place, by what its stripe is found by.
+fn standing(array: Array, stripe: u64, seat: Seat, bytes: &[u8], member: usize) -> u8
     requires { ⌜ ownerRefusal array stripe member ≡ 0 ⌝ }
     requires { ⌜ formatAt array .blockLength * member + formatAt array .blockLength ≤ length (now bytes) ⌝ }
+    requires { ⌜ seat ≡ seatOf array stripe ⌝ }
     ensures { λ r. ⌜ r ≡ standingAt array stripe member (blockOf (formatAt array) (now (bytes .entry)) member) ⌝ }
 {
     let method = array.method;
     let from = block_at(method, member);
     let end = from + format::data_length(method);
     let data_guard = format::guard(method, &bytes[from..end]);
-    let seat = layout::seat_of(array, stripe);
     let found = stored(method, bytes, member);
     standing_by(array, stripe, seat, member, found, data_guard)
 }
 
 // Whether a member's block is good at its place.
-fn is_good(array: Array, stripe: u64, bytes: &[u8], member: usize) -> bool
+fn is_good(array: Array, stripe: u64, seat: Seat, bytes: &[u8], member: usize) -> bool
     requires { ⌜ ownerRefusal array stripe member ≡ 0 ⌝ }
     requires { ⌜ formatAt array .blockLength * member + formatAt array .blockLength ≤ length (now bytes) ⌝ }
+    requires { ⌜ seat ≡ seatOf array stripe ⌝ }
     ensures { λ r. ⌜ r ≡ good array stripe member (blockOf (formatAt array) (now (bytes .entry)) member) ⌝ }
 {
-    standing(array, stripe, bytes, member) == GOOD
+    standing(array, stripe, seat, bytes, member) == GOOD
 }
 
 // Whether a member with this guard of its data is good, or is the one left out.

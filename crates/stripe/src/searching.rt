@@ -18,10 +18,12 @@ fn is_amiss(array: Array, stripe: u64, bytes: &[u8], member: usize) -> bool
     requires { ⌜ formatAt array .blockLength * member + formatAt array .blockLength ≤ length (now bytes) ⌝ }
     ensures { λ r. ⌜ r ≡ amiss array stripe (now (bytes .entry)) member ⌝ }
 {
-    if member == layout::parity_member(array, stripe) {
+    let seat = layout::seat_of(array, stripe);
+    let parity = seat.parity;
+    if member == parity {
         return false;
     }
-    !is_good(array, stripe, bytes, member)
+    !is_good(array, stripe, seat, bytes, member)
 }
 
 // The lowest such member, or the number of members.

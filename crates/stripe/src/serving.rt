@@ -91,7 +91,8 @@ fn serve(array: Array, stripe: u64, member: usize, bytes: &[u8], out: &mut [u8])
     if out.len() != format::data_length(method) {
         return Reading::Refused(6);
     }
-    let standing = standing(array, stripe, bytes, member);
+    let seat = layout::seat_of(array, stripe);
+    let standing = standing(array, stripe, seat, bytes, member);
     if !tag::is_bad(standing) {
         let from = block_at(method, member);
         let end = from + format::data_length(method);

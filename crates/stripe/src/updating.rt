@@ -52,11 +52,12 @@ fn replace_refusal(array: Array, stripe: u64, member: usize, content: usize, byt
     if content != format::data_length(method) {
         return 6;
     }
-    if !is_good(array, stripe, bytes, member) {
+    let seat = layout::seat_of(array, stripe);
+    if !is_good(array, stripe, seat, bytes, member) {
         return 9;
     }
-    let parity = layout::parity_member(array, stripe);
-    if !is_good(array, stripe, bytes, parity) {
+    let parity = seat.parity;
+    if !is_good(array, stripe, seat, bytes, parity) {
         return 9;
     }
     if !guards_agree(array, bytes) {

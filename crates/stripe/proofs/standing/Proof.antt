@@ -32,9 +32,6 @@ part-guard-end c = let F = formatAt (c .before .before .before .args .array) in 
 guard-requires : tie.Need-guard-requires
 guard-requires c κs = search needs
 
-seat-of-requires : tie.Need-seat-of-requires
-seat-of-requires c κs = search needs
-
 stored-requires : tie.Need-stored-requires
 stored-requires c κs = search needs
 
@@ -44,7 +41,7 @@ standing-by-requires c κs = search needs
 returns : tie.Need-returns
 returns c =
     let f = c .before in
-    let g = f .before .before in
+    let g = f .before in
     let l = g .before .before in
     let b = l .before in
     let a = b .before .before .args in
@@ -63,7 +60,6 @@ standing-spec =
     part-guard-start
     part-guard-end
     guard-requires
-    seat-of-requires
     stored-requires
     standing-by-requires
     returns)

@@ -2,21 +2,22 @@
 use mathlib.Core.Path.{sym, ap, _∙_}
 use mathlib.Core.Bool.{not}
 use borrow.Author.Tests.{eq-eqb, ne-eqb}
+use Rattle.layout.specs.declared.Seat.{Seat}
 use Rattle.layout.specs.Places.{parityMember}
 use Rattle.stripe.specs.InPart.{amiss}
 use borrow.Author.Needs.{needs}
 use Rattle.stripe.proofs.searching.is_amiss.Statement.{statement}
 use Rattle.stripe.proofs.searching.is_amiss.Tie as tie
 
-parity-member-requires : tie.Need-parity-member-requires
-parity-member-requires c κs = search needs
+seat-of-requires : tie.Need-seat-of-requires
+seat-of-requires c κs = search needs
 
 returns : tie.Need-returns
 unfolding amiss
 returns c =
     let p = c .before in
     let a = p .before .before .args in
-    rw (eq-eqb (a .member) (parityMember (a .array) (a .stripe)) (c .if1 .taken ∙ p .parity-member .ensures))
+    rw (eq-eqb (a .member) (parityMember (a .array) (a .stripe)) (c .if1 .taken ∙ ap (λ (x : Seat). x .parity) (p .seat-of .ensures)))
 
 is-good-requires : tie.Need-is-good-requires
 is-good-requires c κs = search needs
@@ -27,7 +28,7 @@ returns-2 c =
     let l = c .before in
     let p = l .before in
     let a = p .before .before .args in
-    rw (ne-eqb (a .member) (parityMember (a .array) (a .stripe)) (λ e. l .if1 .left (e ∙ sym (p .parity-member .ensures)))) (ap not (c .is-good .ensures))
+    rw (ne-eqb (a .member) (parityMember (a .array) (a .stripe)) (λ e. l .if1 .left (e ∙ sym (ap (λ (x : Seat). x .parity) (p .seat-of .ensures))))) (ap not (c .is-good .ensures))
 
 pub is-amiss-spec : {M : Type 1} → statement M
-is-amiss-spec = tie.close (tie.spec parity-member-requires returns is-good-requires returns-2)
+is-amiss-spec = tie.close (tie.spec seat-of-requires returns is-good-requires returns-2)
