@@ -1,3 +1,4 @@
 pub mod Deciding
 pub mod Rebuilding
 pub mod Once
+pub mod Rules
