@@ -2,7 +2,7 @@
  * Irumbolai: the stripe code of a RAID-5 recorder, proved. Link with libirumbolai.a, which runs on every x86-64 with
  * Linux, or with libirumbolai-v3.a, the same code compiled for processors with AVX2 (x86-64-v3), where the guards of
  * method 1 take about half the time. What is proved is the code; of either archive the compiler has to be trusted.
- * rig/rig.c is an example.
+ * rig/rig.c and examples/recorder.c are examples.
  *
  * Calls. Every call takes any bytes and any numbers, and returns. None allocates memory, keeps a pointer, or holds
  * anything from one call to the next, so calls may run at once where none writes a buffer that another is lent. Of the
