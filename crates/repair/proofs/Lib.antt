@@ -13,3 +13,4 @@ pub mod Theorem
 pub mod Images
 pub mod Refused
 pub mod Promised
+pub mod Examples
