@@ -5,6 +5,9 @@ use libc::STDOUT_FILENO;
 use repair::ROOM;
 use repair::Repair;
 
+// Bytes of one read: few enough that all they give of the image is one write, which a pipe can hold.
+const INPUT: usize = 32768;
+
 // The state to go on with, and whether all was written.
 struct Passed {
     state: Repair,
@@ -64,7 +67,7 @@ fn end(repair: Repair) {
 }
 
 fn main() {
-    let mut input = io::large_buffer();
+    let mut input = [0u8; INPUT];
     let mut list = io::buffer();
     let mut held = [0u8; ROOM];
     let mut image = [0u8; ROOM];

@@ -8,13 +8,10 @@ use Rattle.repair_image.proofs.main.Tie as tie
 
 abbrev Inv-loop : tie.InvT-loop
 Inv-loop input₀ list₀ held₀ image₀ state₀ whole₀ turns₀ input list held image state whole turns =
-    (length input ≡ 65536) × (length list ≡ 4096) × (length held ≡ mostStripe) × (length image ≡ mostStripe)
+    (length input ≡ 32768) × (length list ≡ 4096) × (length held ≡ mostStripe) × (length image ≡ mostStripe)
 
 abbrev μ-loop : tie.MeasureT-loop
 μ-loop input₀ list₀ held₀ image₀ state₀ whole₀ turns₀ input list held image state whole turns = turns
-
-large-buffer-requires : tie.Need-large-buffer-requires Inv-loop μ-loop
-large-buffer-requires c κs = search needs
 
 buffer-requires : tie.Need-buffer-requires Inv-loop μ-loop
 buffer-requires c κs = search needs
@@ -79,7 +76,6 @@ main-spec =
     (tie.spec
     Inv-loop
     μ-loop
-    large-buffer-requires
     buffer-requires
     new-requires
     loop-holds
