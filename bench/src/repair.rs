@@ -2,7 +2,7 @@
 
 use crate::machine;
 use crate::random::{self, Random};
-use crate::report::{damaged, image, run};
+use crate::report::{damaged, image, run, started};
 use crate::stripes::BLOCK;
 use crate::timing::{keep, timed};
 use std::hint::black_box;
@@ -64,11 +64,7 @@ pub fn compare(repair: [&Path; 2]) {
 fn written(path: &Path, image: &[u8]) -> (Vec<u8>, Vec<u8>) {
     let mut command = Command::new(path);
     command.stderr(Stdio::piped());
-    let mut child = command
-        .stdin(Stdio::piped())
-        .stdout(Stdio::piped())
-        .spawn()
-        .unwrap_or_else(|error| panic!("{command:?}: {error}"));
+    let mut child = started(&mut command, Stdio::piped());
     let mut pipe = child.stdin.take().expect("the input is a pipe");
     thread::scope(|scope| {
         scope.spawn(move || pipe.write_all(image).expect("the image is read"));
@@ -79,11 +75,7 @@ fn written(path: &Path, image: &[u8]) -> (Vec<u8>, Vec<u8>) {
 
 /// Runs a program on an image; what it writes goes into a pipe, which is read and forgotten.
 fn run_on(command: &mut Command, image: &[u8]) {
-    let mut child = command
-        .stdin(Stdio::piped())
-        .stdout(Stdio::piped())
-        .spawn()
-        .unwrap_or_else(|error| panic!("{command:?}: {error}"));
+    let mut child = started(command, Stdio::piped());
     let mut input = child.stdin.take().expect("the input is a pipe");
     let mut output = child.stdout.take().expect("the output is a pipe");
     thread::scope(|scope| {

@@ -12,7 +12,7 @@ use std::env;
 use std::hint::black_box;
 use std::io::{self, BufReader, BufWriter, Read, Write};
 use std::path::Path;
-use std::process::{Command, Stdio};
+use std::process::{Child, Command, Stdio};
 use std::thread;
 
 /// How many turns each program has.
@@ -130,13 +130,18 @@ fn command(who: usize, programs: [&Path; 2]) -> Command {
     command
 }
 
-/// Runs a program on an image that a thread writes into its input, until it has ended. Gives what it wrote.
-pub fn run(command: &mut Command, image: &[u8], output: Stdio) -> Vec<u8> {
-    let mut child = command
+/// Starts a program whose input is a pipe.
+pub fn started(command: &mut Command, output: Stdio) -> Child {
+    command
         .stdin(Stdio::piped())
         .stdout(output)
         .spawn()
-        .unwrap_or_else(|error| panic!("{command:?}: {error}"));
+        .unwrap_or_else(|error| panic!("{command:?}: {error}"))
+}
+
+/// Runs a program on an image that a thread writes into its input, until it has ended. Gives what it wrote.
+pub fn run(command: &mut Command, image: &[u8], output: Stdio) -> Vec<u8> {
+    let mut child = started(command, output);
     let mut pipe = child.stdin.take().expect("the input is a pipe");
     thread::scope(|scope| {
         scope.spawn(move || pipe.write_all(image).expect("the image is read"));
