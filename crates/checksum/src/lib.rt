@@ -15,14 +15,14 @@ pub use machine::{advance, checksum, start};
 pub use many::checksums;
 
 // The sum of the words so far, and the byte that waits for its pair: zero where none waits.
-#[derive(Drop)]
+#[derive(Clone, Copy)]
 pub struct Register {
     pub value: u16,
     pub waiting: u8,
 }
 
 // The checksum asked for by itself: refused, or the guard that it is.
-#[derive(Drop)]
+#[derive(Clone, Copy)]
 pub enum Summed {
     Refused(u8),
     Sum { guard: u16 },

@@ -32,7 +32,7 @@ pub const USUAL_TAG: usize = 8;
 pub const PIECE: usize = 512;
 
 // What a byte of a block is, with its place among the bytes of its kind.
-#[derive(Drop)]
+#[derive(Clone, Copy)]
 pub enum Part {
     Data { at: usize },
     Guard { at: usize },

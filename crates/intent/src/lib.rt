@@ -14,7 +14,7 @@ pub use updating::update;
 
 // What a recovery says: refused; the stripe is not entered; its parity was made from its data members and its entry struck out; or it was left
 // as it is, and this is the lowest data member that is bad or unchecked.
-#[derive(Drop)]
+#[derive(Clone, Copy)]
 pub enum Recovery {
     Refused(u8),
     NotEntered,

@@ -19,14 +19,14 @@ use verdict::{Scrubbed, Verdict};
 
 // The guards of many blocks.
 #[repr(C)]
-#[derive(Drop)]
+#[derive(Clone, Copy)]
 pub struct GuardsAnswer {
     pub guard: [u16; 16],
 }
 
 // What the checksum of a run is.
 #[repr(C)]
-#[derive(Drop)]
+#[derive(Clone, Copy)]
 pub struct SumAnswer {
     pub refusal: u32,
     pub guard: u32,
@@ -34,7 +34,7 @@ pub struct SumAnswer {
 
 // Where a block lies.
 #[repr(C)]
-#[derive(Drop)]
+#[derive(Clone, Copy)]
 pub struct PlaceAnswer {
     pub refusal: u32,
     pub member: u32,
@@ -43,7 +43,7 @@ pub struct PlaceAnswer {
 
 // What lies at a place.
 #[repr(C)]
-#[derive(Drop)]
+#[derive(Clone, Copy)]
 pub struct OwnerAnswer {
     pub refusal: u32,
     pub parity: u32,
@@ -52,7 +52,7 @@ pub struct OwnerAnswer {
 
 // A field of a tag as found and as expected, and whether they are the same.
 #[repr(C)]
-#[derive(Drop)]
+#[derive(Clone, Copy)]
 pub struct FieldAnswer {
     pub found: u64,
     pub expected: u64,
@@ -61,7 +61,7 @@ pub struct FieldAnswer {
 
 // What a check of a block says: kind 0 good, 1 bad, 2 unchecked, and the three fields of its tag.
 #[repr(C)]
-#[derive(Drop)]
+#[derive(Clone, Copy)]
 pub struct CheckAnswer {
     pub refusal: u32,
     pub kind: u32,
@@ -72,7 +72,7 @@ pub struct CheckAnswer {
 
 // What a verified read says: kind 0 stored, 1 rebuilt, 2 unchecked.
 #[repr(C)]
-#[derive(Drop)]
+#[derive(Clone, Copy)]
 pub struct ReadAnswer {
     pub refusal: u32,
     pub kind: u32,
@@ -80,7 +80,7 @@ pub struct ReadAnswer {
 
 // What a recovery says: kind 0 not entered, 1 recovered, 2 left, with the lowest data member that is bad or unchecked.
 #[repr(C)]
-#[derive(Drop)]
+#[derive(Clone, Copy)]
 pub struct RecoveryAnswer {
     pub refusal: u32,
     pub kind: u32,
@@ -90,7 +90,7 @@ pub struct RecoveryAnswer {
 // What a scrub says: kind 0 clean, 1 bad (the lowest bad member, their count, and which of its fields fit), 2 torn (the first place),
 // 3 unchecked (the lowest unchecked member and their count).
 #[repr(C)]
-#[derive(Drop)]
+#[derive(Clone, Copy)]
 pub struct VerdictAnswer {
     pub refusal: u32,
     pub kind: u32,
@@ -103,7 +103,7 @@ pub struct VerdictAnswer {
 
 // What a quick scrub says.
 #[repr(C)]
-#[derive(Drop)]
+#[derive(Clone, Copy)]
 pub struct QuickAnswer {
     pub refusal: u32,
     pub differs: u32,
@@ -112,7 +112,7 @@ pub struct QuickAnswer {
 
 // The state of a scan: the array's numbers, then what `scan::Scan` holds.
 #[repr(C)]
-#[derive(Drop)]
+#[derive(Clone, Copy)]
 pub struct ScanState {
     pub members: usize,
     pub stripes: u64,
@@ -128,7 +128,7 @@ pub struct ScanState {
 
 // What a call of a scan leaves.
 #[repr(C)]
-#[derive(Drop)]
+#[derive(Clone, Copy)]
 pub struct TakenAnswer {
     pub refusal: u32,
     pub state: ScanState,
@@ -136,7 +136,7 @@ pub struct TakenAnswer {
 
 // The state of a patrol: the array's numbers, and the stripe that comes next.
 #[repr(C)]
-#[derive(Drop)]
+#[derive(Clone, Copy)]
 pub struct PatrolState {
     pub members: usize,
     pub stripes: u64,
@@ -148,7 +148,7 @@ pub struct PatrolState {
 
 // How a patrol begins.
 #[repr(C)]
-#[derive(Drop)]
+#[derive(Clone, Copy)]
 pub struct PatrolBegunAnswer {
     pub refusal: u32,
     pub state: PatrolState,
@@ -156,7 +156,7 @@ pub struct PatrolBegunAnswer {
 
 // What a call of a patrol saw, and what it leaves.
 #[repr(C)]
-#[derive(Drop)]
+#[derive(Clone, Copy)]
 pub struct PatrolledAnswer {
     pub verdict: VerdictAnswer,
     pub stripe: u64,

@@ -22,7 +22,7 @@ ghost use Rattle.layout.specs.Places.{
 use std::num::wrapping_add_u64;
 
 // The array's numbers: members n, stripes S, the volume that stands in every application tag, the guard method, and the row length c.
-#[derive(Drop)]
+#[derive(Clone, Copy)]
 pub struct Array {
     pub members: usize,
     pub stripes: u64,
@@ -52,21 +52,21 @@ pub fn no_array() -> Array
 }
 
 // Where a block lies.
-#[derive(Drop)]
+#[derive(Clone, Copy)]
 pub enum Placed {
     Refused(u8),
     At { stripe: u64, member: usize },
 }
 
 // What a stripe is found by: the member of its parity, and its lowest block. To find it takes divisions, so it is found once a stripe.
-#[derive(Drop)]
+#[derive(Clone, Copy)]
 pub struct Seat {
     pub parity: usize,
     pub lowest: u64,
 }
 
 // What lies at a place: a block, or the parity of its stripe, which is named by the stripe's lowest block.
-#[derive(Drop)]
+#[derive(Clone, Copy)]
 pub enum Owned {
     Refused(u8),
     Parity { lowest: u64 },

@@ -10,7 +10,7 @@ use tag::pair;
 pub const HEADER: usize = 15;
 
 // What a version's header has after the volume: bytes of stripes, and later numbers of a byte each.
-#[derive(Drop)]
+#[derive(Clone, Copy)]
 pub struct Form {
     pub wide: usize,
     pub more: usize,

@@ -20,21 +20,21 @@ use layout::Array;
 use verdict::{Scrubbed, Verdict};
 
 // Where a patrol stands: the array, and the stripe that its next idle turn scrubs.
-#[derive(Drop)]
+#[derive(Clone, Copy)]
 pub struct Patrol {
     pub array: Array,
     pub next: u64,
 }
 
 // A refusal number, and the state to go on with.
-#[derive(Drop)]
+#[derive(Clone, Copy)]
 pub struct Begun {
     pub refusal: u8,
     pub state: Patrol,
 }
 
 // What a turn or a request saw: nothing, at a busy turn, or a stripe, with the full scrub's verdict.
-#[derive(Drop)]
+#[derive(Clone, Copy)]
 pub enum Seen {
     Refused(u8),
     Nothing,
@@ -42,7 +42,7 @@ pub enum Seen {
 }
 
 // What was seen, and the state to go on with.
-#[derive(Drop)]
+#[derive(Clone, Copy)]
 pub struct Patrolled {
     pub seen: Seen,
     pub state: Patrol,

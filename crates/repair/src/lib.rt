@@ -20,7 +20,7 @@ pub const ROOM: usize = 65792;
 // Where a repair stands between the calls, beside the buffer that holds.
 // stage: 0 in the header, 1 in the stripes, 2 behind the last one, 3 when it is over.
 // have: how many bytes of the header, or of the stripe, are held.
-#[derive(Drop)]
+#[derive(Clone, Copy)]
 pub struct Repair {
     pub stage: u8,
     pub have: usize,
@@ -29,7 +29,7 @@ pub struct Repair {
 }
 
 // The state to go on with, how many bytes of the input were used, and how many were written to the image and to the list.
-#[derive(Drop)]
+#[derive(Clone, Copy)]
 pub struct Fed {
     pub state: Repair,
     pub used: usize,

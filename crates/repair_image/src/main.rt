@@ -6,7 +6,7 @@ use repair::{ROOM, Repair};
 const INPUT: usize = 32768;
 
 // The state to go on with, and whether all was written.
-#[derive(Drop)]
+#[derive(Clone, Copy)]
 struct Passed {
     state: Repair,
     whole: bool,

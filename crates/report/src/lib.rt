@@ -23,7 +23,7 @@ use verdict::{Scrubbed, Verdict};
 // Where a report stands between the calls, beside the work buffer.
 // stage: 0 in the header, 1 in the stripes, 2 behind the last stripe, 3 when the last line is written.
 // have: how many bytes of the header, or of the stripe, have come.
-#[derive(Drop)]
+#[derive(Clone, Copy)]
 pub struct Report {
     pub stage: u8,
     pub header: [u8; HEADER],
@@ -36,7 +36,7 @@ pub struct Report {
 }
 
 // The state to go on with, how many bytes of the input were used, and how many were written.
-#[derive(Drop)]
+#[derive(Clone, Copy)]
 pub struct Fed {
     pub state: Report,
     pub used: usize,
@@ -87,7 +87,7 @@ fn stripe_held(report: Report, have: usize, scan: Scan) -> Report
 }
 
 // How many stripes were clean, bad, unchecked and torn.
-#[derive(Drop)]
+#[derive(Clone, Copy)]
 struct Counts {
     clean: u64,
     bad: u64,

@@ -17,7 +17,7 @@ pub use taking::piece;
 
 // What is held of a stripe between the calls, beside the work buffer: of each member its position in its block, its guard's
 // register, with the byte that waits for its pair, and the bytes of its tag.
-#[derive(Drop)]
+#[derive(Clone, Copy)]
 pub struct Scan {
     pub array: Array,
     pub stripe: u64,
@@ -28,7 +28,7 @@ pub struct Scan {
 }
 
 // A refusal number, and the state to go on with.
-#[derive(Drop)]
+#[derive(Clone, Copy)]
 pub struct Taken {
     pub refusal: u8,
     pub state: Scan,

@@ -36,7 +36,7 @@ use verdict::combined_wide;
 const ROW: usize = 128;
 
 // What a verified read says: the block's own data, data rebuilt from the other members, or the data of a block that is not to be checked.
-#[derive(Drop)]
+#[derive(Clone, Copy)]
 pub enum Reading {
     Refused(u8),
     Stored,
@@ -52,7 +52,7 @@ fn wide(guard: u32) -> u64
 }
 
 // What data made again for a member come with: the guard that is due there, and whether they may be taken for those lost.
-#[derive(Drop)]
+#[derive(Clone, Copy)]
 struct Remade {
     guard: u64,
     fits: bool,

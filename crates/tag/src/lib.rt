@@ -26,7 +26,7 @@ const APPLICATION: u8 = 2;
 const REFERENCE: u8 = 1;
 
 // The three fields of a tag.
-#[derive(Drop)]
+#[derive(Clone, Copy)]
 pub struct Fields {
     pub guard: u64,
     pub application: u64,
@@ -34,7 +34,7 @@ pub struct Fields {
 }
 
 // What a check of a block says: its fields as found and as expected; or that it is not to be checked.
-#[derive(Drop)]
+#[derive(Clone, Copy)]
 pub enum Checked {
     Refused(u8),
     Unchecked,

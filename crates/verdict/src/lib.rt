@@ -29,7 +29,7 @@ const UNCHECKED: u8 = 8;
 // What a scrub finds in a stripe: every member good and parity right; the lowest of `count` bad members, and which of its fields are not
 // those due (4 the guard, 2 the application tag, 1 the reference tag); with none bad, the lowest of `count` unchecked ones; or, with every member good, the lowest place where the members' data do not combine to zero, or the place
 // behind them where what the tags hold does not (01 calls such a stripe torn).
-#[derive(Drop)]
+#[derive(Clone, Copy)]
 pub enum Verdict {
     Clean,
     Bad {
@@ -47,21 +47,21 @@ pub enum Verdict {
 }
 
 // Members that stand alike: the lowest of them, and how many they are. Where there is none the lowest is the number of members.
-#[derive(Drop)]
+#[derive(Clone, Copy)]
 struct Alike {
     lowest: usize,
     count: usize,
 }
 
 // A scrub refused, or its verdict.
-#[derive(Drop)]
+#[derive(Clone, Copy)]
 pub enum Scrubbed {
     Refused(u8),
     Found(Verdict),
 }
 
 // What the quick scrub says of the stored guards: they combine to zero, or to something else.
-#[derive(Drop)]
+#[derive(Clone, Copy)]
 pub enum Compared {
     Refused(u8),
     Fits,
@@ -69,7 +69,7 @@ pub enum Compared {
 }
 
 // What the quick scrub says of stored guards of thirty-two bits: they combine to what is due, or to something else.
-#[derive(Drop)]
+#[derive(Clone, Copy)]
 pub enum ComparedWide {
     Refused(u8),
     Fits,

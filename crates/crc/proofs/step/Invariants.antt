@@ -1,0 +1,16 @@
+-- `crc::step` meets its contract. The invariant: the bits still to come, from the register now, give what all eight give from the first.
+-- Assumes nothing.
+use mathlib.Core.Path.{◌≡◌, refl, sym, ap, ap₂, ◌∙◌}
+use mathlib.Core.List.{List, [], ◌∷◌, append-nil}
+use Prim.Native.Nat.{ℕ, suc, ◌-◌, ◌/◌, ◌%◌, ◌^◌, ◌≤◌}
+use native.Mathlib.Omega.{arith}
+use borrow.Author.Rules.{rules}
+use Rattle.crc.specs.Crc.{feed, bits, bits_of, bit_step}
+use Rattle.crc.specs.Guard.{generator, run}
+use Rattle.crc.proofs.step.Given as goal
+
+abbrev pub invariant-loop-left : goal.invariant-loop-left
+invariant-loop-left l = (l.left ≤ 8) × (feed 16 generator l.after (bits l.left l.byte) ≡ run l.register (l.byte ∷ []))
+
+abbrev pub decreases-loop-left : goal.decreases-loop-left
+decreases-loop-left l = l.left

@@ -1,0 +1,19 @@
+-- `xor::xor_into` meets its contract. The invariant: what is done, followed by what is left to add, is the whole sum.
+-- Assumes nothing.
+use mathlib.Core.Path.{◌≡◌, refl, sym, ◌∙◌}
+use mathlib.Core.List.{◌++◌}
+use Prim.Native.Nat.{◌-◌, ◌≤◌, min}
+use native.Mathlib.Omega.{arith}
+use lib.ListN.{length, take, drop, length-set}
+use Rattle.xor.specs.Xors.{xors}
+use Rattle.xor.proofs.Lists.{xors-turn, xors_end}
+use borrow.Author.Rules.{rules}
+use Rattle.xor.proofs.xor_into.Goals as goal
+
+pub loop-i-preserved : goal.loop-i-preserved
+loop-i-preserved c =
+    let at = c.loop-i in
+    (simp length-set at.invariant.0, simp length-set at.invariant.1, xors-turn _ _ at.i (omega arith) (omega arith) ∙ at.invariant.2)
+
+pub returns : goal.returns
+returns c = let at = c.loop-i in sym (xors_end _ _ at.i (omega arith)) ∙ at.invariant.2

@@ -1,0 +1,17 @@
+-- `xor::xor_into` meets its contract. The invariant: what is done, followed by what is left to add, is the whole sum.
+-- Assumes nothing.
+use mathlib.Core.Path.{◌≡◌, refl, sym, ◌∙◌}
+use mathlib.Core.List.{◌++◌}
+use Prim.Native.Nat.{◌-◌, ◌≤◌, min}
+use native.Mathlib.Omega.{arith}
+use lib.ListN.{length, take, drop, length-set}
+use Rattle.xor.specs.Xors.{xors}
+use Rattle.xor.proofs.Lists.{xors-turn, xors_end}
+use borrow.Author.Rules.{rules}
+use Rattle.xor.proofs.xor_into.Given as goal
+
+abbrev pub invariant-loop-i : goal.invariant-loop-i
+invariant-loop-i l = (length l.dst ≡ length l.initial.dst) × (l.shorter ≡ min (length l.dst) (length l.src)) × (take l.i l.dst ++ xors (drop l.i l.dst) (drop l.i l.src) ≡ xors l.initial.dst l.src)
+
+abbrev pub decreases-loop-i : goal.decreases-loop-i
+decreases-loop-i l = l.shorter - l.i
