@@ -4,12 +4,8 @@ use mathlib.Core.Path.{refl}
 use Rattle.crc.specs.Crc.{feed, bits_of, bits, bit_step}
 use Rattle.crc.specs.Guard.{run, guard}
 use Rattle.table.specs.Tables.{lows}
-use Rattle.table.proofs.low.low_table.Statement.{statement}
-use Rattle.table.proofs.low.low_table.Tie as tie
+use Rattle.table.proofs.low.low_table.Goals as goal
 
-returns : tie.Need-returns
+pub returns : goal.returns
 unfolding lows guard run feed bits_of bits bit_step
 returns c = refl
-
-pub low-table-spec : {M : Type 1} → statement M
-low-table-spec = tie.close (tie.spec returns)
