@@ -1,5 +1,5 @@
 -- Numbers as text. Assumes nothing.
-use Rattle.std.specs.Prelude.{ℕ, ◌+◌, ◌/◌, ◌%◌, cond, List, [], ◌∷◌, ltb}
+use Rattle.std.specs.Prelude.{ℕ, ◌+◌, ◌/◌, ◌%◌, cond, List, [], ◌∷◌, ◌++◌, ltb}
 
 -- the ASCII code of the lowest hexadecimal digit of n, in upper case
 abbrev pub digit : ℕ → ℕ
@@ -11,3 +11,7 @@ four_digits n = digit (n / 4096) ∷ digit (n / 256) ∷ digit (n / 16) ∷ digi
 
 abbrev pub two_digits : ℕ → List ℕ
 two_digits n = 32 ∷ digit (n / 16) ∷ digit n ∷ []
+
+-- one line: what is given, and its guard
+abbrev pub guard_line : List ℕ → ℕ → List ℕ
+guard_line given guard = given ++ four_digits guard ++ (10 ∷ [])

@@ -1,21 +1,28 @@
 // Numbers as the programs of figures print them.
-ghost use Rattle.std.specs.Prelude.{◌≡◌};
-ghost use Rattle.figures_text.specs.Text.{digit, four_digits, two_digits};
+#![tactic(auto)]
 
-use libc::STDOUT_FILENO;
+ghost use Rattle.std.specs.Prelude.{◌≡◌, ◌++◌, OnOk, decimal};
+ghost use Rattle.std.specs.Io.KnownBytes.{Appends};
+ghost use Rattle.figures_text.specs.Text.{digit, four_digits, guard_line, two_digits};
+
+use std::io;
+use std::io::Write;
 
 // A name, and a decimal number after it.
-pub fn named(name: &[u8], number: u64) {
-    io::write_all(STDOUT_FILENO, name);
-    io::print_decimal(STDOUT_FILENO, number);
+pub fn named<W: Write>(out: &mut W, name: &[u8], number: u64) -> io::Result<()>
+    ensures { OnOk result (Appends (W.contents out.old) (W.contents out.new) (name.now ++ decimal number)) }
+{
+    out.write_all(name)?;
+    write!(out, "{number}")
 }
 
 // One line: what is given, and its guard.
-pub fn guard_line(given: &[u8], guard: u16) {
-    io::write_all(STDOUT_FILENO, given);
-    let found = four_digits(guard);
-    io::write_all(STDOUT_FILENO, &found);
-    io::write_all(STDOUT_FILENO, b"\n");
+pub fn guard_line<W: Write>(out: &mut W, given: &[u8], guard: u16) -> io::Result<()>
+    ensures { OnOk result (Appends (W.contents out.old) (W.contents out.new) (guard_line given.now guard)) }
+{
+    out.write_all(given)?;
+    out.write_all(&four_digits(guard))?;
+    out.write_all(b"\n")
 }
 
 // A number in four hexadecimal digits, and a byte in two with a blank before them.
