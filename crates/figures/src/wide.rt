@@ -1,6 +1,7 @@
 // CRC-32C: the examples of RFC 3720, and the quick scrub of guards of blocks of 4,096 bytes.
 use figures_text::{four_digits, named};
-use libc::STDOUT_FILENO;
+use std::io;
+use std::io::Write;
 use verdict::ComparedWide;
 
 // An iSCSI read command.
@@ -10,41 +11,51 @@ const COMMAND: [u8; 48] = [
     0x28, 0x00, 0x00, 0x00, 0x00, 0x00, 0x00, 0x00, 0x02, 0x00, 0x00, 0x00, 0x00, 0x00, 0x00, 0x00,
 ];
 
-pub fn published() {
-    io::write_all(STDOUT_FILENO, b"\nCRC-32C of                   is\n");
-    row(b"no bytes                     ", b"");
-    row(b"00, 32 times                 ", &[0x00; 32]);
-    row(b"FF, 32 times                 ", &[0xFF; 32]);
+pub fn published(out: &mut impl Write) -> io::Result<()> {
+    out.write_all(b"\nCRC-32C of                   is\n")?;
+    row(out, b"no bytes                     ", b"")?;
+    row(out, b"00, 32 times                 ", &[0x00; 32])?;
+    row(out, b"FF, 32 times                 ", &[0xFF; 32])?;
     row(
+        out,
         b"00 to 1F                     ",
         b"\x00\x01\x02\x03\x04\x05\x06\x07\x08\x09\x0A\x0B\x0C\x0D\x0E\x0F\x10\x11\x12\x13\x14\x15\x16\x17\x18\x19\x1A\x1B\x1C\x1D\x1E\x1F",
-    );
+    )?;
     row(
+        out,
         b"1F down to 00                ",
         b"\x1F\x1E\x1D\x1C\x1B\x1A\x19\x18\x17\x16\x15\x14\x13\x12\x11\x10\x0F\x0E\x0D\x0C\x0B\x0A\x09\x08\x07\x06\x05\x04\x03\x02\x01\x00",
-    );
-    row(b"an iSCSI read command        ", &COMMAND);
-    row(b"the characters 123456789     ", b"123456789");
+    )?;
+    row(out, b"an iSCSI read command        ", &COMMAND)?;
+    row(out, b"the characters 123456789     ", b"123456789")
 }
 
 // Three blocks and four that combine to zeros, and as many that do not; guards of 0, which three blocks of zeros have not; too few guards.
-pub fn scrubs() {
+pub fn scrubs(out: &mut impl Write) -> io::Result<()> {
     let blank = ending(0);
     let one = ending(1);
     let two = ending(2);
     let three = ending(3);
-    io::write_all(STDOUT_FILENO, b"\nguard of 4096 bytes          is\n");
-    guard(b"zeros                        ", blank);
-    guard(b"zeros, 01 last               ", one);
-    guard(b"zeros, 02 last               ", two);
-    guard(b"zeros, 03 last               ", three);
-    io::write_all(STDOUT_FILENO, b"quick scrub of               is\n");
-    quick(b"01, 02, 03                   ", &[one, two, three]);
-    quick(b"01, 02, 03, zeros            ", &[one, two, three, blank]);
-    quick(b"01, 02, 02                   ", &[one, two, two]);
-    quick(b"01, 02, 02, zeros            ", &[one, two, two, blank]);
-    quick(b"three guards of 0            ", &[0, 0, 0]);
-    quick(b"two guards                   ", &[one, two]);
+    out.write_all(b"\nguard of 4096 bytes          is\n")?;
+    guard(out, b"zeros                        ", blank)?;
+    guard(out, b"zeros, 01 last               ", one)?;
+    guard(out, b"zeros, 02 last               ", two)?;
+    guard(out, b"zeros, 03 last               ", three)?;
+    out.write_all(b"quick scrub of               is\n")?;
+    quick(out, b"01, 02, 03                   ", &[one, two, three])?;
+    quick(
+        out,
+        b"01, 02, 03, zeros            ",
+        &[one, two, three, blank],
+    )?;
+    quick(out, b"01, 02, 02                   ", &[one, two, two])?;
+    quick(
+        out,
+        b"01, 02, 02, zeros            ",
+        &[one, two, two, blank],
+    )?;
+    quick(out, b"three guards of 0            ", &[0, 0, 0])?;
+    quick(out, b"two guards                   ", &[one, two])
 }
 
 // The guard of a block of zeros but for its last byte.
@@ -55,37 +66,32 @@ fn ending(last: u8) -> u32 {
 }
 
 // One line: what is given, and its CRC-32C.
-fn row(given: &[u8], bytes: &[u8]) {
-    guard(given, castagnoli_fold::crc32c(bytes));
+fn row(out: &mut impl Write, given: &[u8], bytes: &[u8]) -> io::Result<()> {
+    guard(out, given, castagnoli_fold::crc32c(bytes))
 }
 
-fn guard(given: &[u8], guard: u32) {
-    io::write_all(STDOUT_FILENO, given);
-    eight_digits(guard);
-    io::write_all(STDOUT_FILENO, b"\n");
+fn guard(out: &mut impl Write, given: &[u8], guard: u32) -> io::Result<()> {
+    out.write_all(given)?;
+    eight_digits(out, guard)?;
+    out.write_all(b"\n")
 }
 
 // A number in eight hexadecimal digits.
-fn eight_digits(number: u32) {
-    let high = four_digits((number / 65536) as u16);
-    let low = four_digits((number % 65536) as u16);
-    io::write_all(STDOUT_FILENO, &high);
-    io::write_all(STDOUT_FILENO, &low);
+fn eight_digits(out: &mut impl Write, number: u32) -> io::Result<()> {
+    out.write_all(&four_digits((number / 65536) as u16))?;
+    out.write_all(&four_digits((number % 65536) as u16))
 }
 
 // One line: whose guards are given, and what the quick scrub says of them.
-fn quick(given: &[u8], guards: &[u32]) {
-    io::write_all(STDOUT_FILENO, given);
-    let compared = verdict::quick_scrub_wide(guards);
-    match compared {
-        ComparedWide::Refused(number) => named(b"refusal ", number as u64),
-        ComparedWide::Fits => {
-            io::write_all(STDOUT_FILENO, b"fits");
-        }
+fn quick(out: &mut impl Write, given: &[u8], guards: &[u32]) -> io::Result<()> {
+    out.write_all(given)?;
+    match verdict::quick_scrub_wide(guards) {
+        ComparedWide::Refused(number) => named(out, b"refusal ", u64::from(number))?,
+        ComparedWide::Fits => out.write_all(b"fits")?,
         ComparedWide::Differs { combination } => {
-            io::write_all(STDOUT_FILENO, b"differs ");
-            eight_digits(combination);
+            out.write_all(b"differs ")?;
+            eight_digits(out, combination)?;
         }
     }
-    io::write_all(STDOUT_FILENO, b"\n");
+    out.write_all(b"\n")
 }

@@ -1,92 +1,112 @@
 // Reads an image on standard input, writes the mended image to standard output and the list to standard error.
-use libc::{STDERR_FILENO, STDIN_FILENO, STDOUT_FILENO};
+#![tactic(auto)]
+
 use repair::{ROOM, Repair};
+use std::io;
+use std::io::{Read, Write};
 
 // Bytes of one read: few enough that all they give of the image is one write, which a pipe can hold.
 const INPUT: usize = 32768;
 
-// The state to go on with, and whether all was written.
-#[derive(Clone, Copy)]
-struct Passed {
-    state: Repair,
-    whole: bool,
+// Room for the lines of one feed.
+const LINES: usize = 4096;
+
+// Why a repair stopped: the image could not be written, or the input not read or the list not written.
+#[derive(Drop)]
+enum Stop {
+    Image,
+    Other(io::Error),
 }
 
-// Writes bytes of the image and lines of the list. An image that cannot be written is told in the list.
-fn put_out(image: &[u8], lines: &[u8]) -> bool {
-    if !io::write_all(STDOUT_FILENO, image) {
-        io::write_all(
-            STDERR_FILENO,
-            b"repair_image: the image could not be written, and what there is of it is not whole\n",
-        );
-        return false;
+impl From<io::Error> for Stop {
+    fn from(e: io::Error) -> Stop {
+        Stop::Other(e)
     }
-    io::write_all(STDERR_FILENO, lines)
+}
+
+// Writes bytes of the image, and then lines of the list.
+fn put_out<I: Write, L: Write>(
+    bytes: &[u8],
+    lines: &[u8],
+    mended: &mut I,
+    list: &mut L,
+) -> Result<(), Stop> {
+    if mended.write_all(bytes).is_err() {
+        return Err(Stop::Image);
+    }
+    list.write_all(lines)?;
+    Ok(())
 }
 
 // Feeds the repair with a piece of input until it is used up, and writes out what each feed gives.
-fn pass(
+fn pass<I: Write, L: Write>(
     repair: Repair,
     input: &[u8],
     held: &mut [u8],
-    image: &mut [u8],
-    list: &mut [u8],
-) -> Passed {
+    bytes: &mut [u8],
+    lines: &mut [u8],
+    mended: &mut I,
+    list: &mut L,
+) -> Result<Repair, Stop> {
     let mut state = repair;
     let mut at: usize = 0;
-    let mut whole = true;
     while at < input.len() {
-        let fed = repair::feed(state, &input[at..], held, image, list);
-        let written = fed.written;
-        let listed = fed.listed;
+        let fed = repair::feed(state, &input[at..], held, bytes, lines);
         state = fed.state;
-        whole = put_out(&image[0..written], &list[0..listed]);
-        if !whole {
-            break;
-        }
-        let used = fed.used;
+        put_out(&bytes[..fed.written], &lines[..fed.listed], mended, list)?;
         // Never so, by repair's law feed-goes-on: there is room for a stripe and for a line.
-        if used == 0 {
+        if fed.used == 0 {
             break;
         }
-        at += used;
+        at += fed.used;
     }
-    Passed {
-        state: state,
-        whole: whole,
-    }
+    Ok(state)
 }
 
 // Closes the repair, and writes out the list's last line.
-fn end(repair: Repair) {
-    let mut list = io::buffer();
-    let last = repair::close(repair, &mut list);
-    io::write_all(STDERR_FILENO, &list[0..last]);
+fn end<L: Write>(repair: Repair, lines: &mut [u8], list: &mut L) -> Result<(), Stop> {
+    let last = repair::close(repair, lines);
+    list.write_all(&lines[..last])?;
+    Ok(())
 }
 
-fn main() {
+// Reads an image to its end, and writes the mended image and the list.
+fn mend<R: Read, I: Write, L: Write>(
+    image: &mut R,
+    mended: &mut I,
+    list: &mut L,
+) -> Result<(), Stop> {
     let mut input = [0u8; INPUT];
-    let mut list = io::buffer();
+    let mut lines = [0u8; LINES];
     let mut held = [0u8; ROOM];
-    let mut image = [0u8; ROOM];
+    let mut bytes = [0u8; ROOM];
     let mut state = repair::new();
-    let mut whole = true;
-    let mut turns = u64::MAX;
-    while turns > 0 {
-        let got = libc::read(STDIN_FILENO, &mut input);
-        let count = io::count(got, &input);
+    for _ in 0..u64::MAX {
+        let count = image.read(&mut input)?;
         if count == 0 {
             break;
         }
-        let passed = pass(state, &input[..count], &mut held, &mut image, &mut list);
-        state = passed.state;
-        whole = passed.whole;
-        if !whole {
-            break;
-        }
-        turns -= 1;
+        state = pass(
+            state,
+            &input[..count],
+            &mut held,
+            &mut bytes,
+            &mut lines,
+            mended,
+            list,
+        )?;
     }
-    if whole {
-        end(state);
+    end(state, &mut lines, list)
+}
+
+fn main(rt: HostRuntime) -> io::Result<()> {
+    let mut list = rt.stderr();
+    match mend(&mut rt.reader(), &mut io::writer(&rt), &mut list) {
+        Ok(()) => Ok(()),
+        // An image that cannot be written is told in the list.
+        Err(Stop::Image) => list.write_all(
+            b"repair_image: the image could not be written, and what there is of it is not whole\n",
+        ),
+        Err(Stop::Other(e)) => Err(e),
     }
 }

@@ -1,50 +1,62 @@
 // Reads an image on standard input and writes its report to standard output.
+#![tactic(auto)]
+
 use format::MOST_DATA;
-use libc::{STDIN_FILENO, STDOUT_FILENO};
 use report::Report;
+use std::io;
+use std::io::{Read, Write};
+
+// Bytes of one read.
+const INPUT: usize = 65536;
 
 // Room for the lines of one fill: four of the longest.
 const LINES: usize = 512;
 
 // Fills the report with a piece of input until it is used up, and writes out the lines of each fill.
-fn pass(report: Report, input: &[u8], work: &mut [u8], out: &mut [u8]) -> Report {
+fn pass<W: Write>(
+    report: Report,
+    input: &[u8],
+    work: &mut [u8],
+    lines: &mut [u8],
+    out: &mut W,
+) -> io::Result<Report> {
     let mut state = report;
     let mut at: usize = 0;
     while at < input.len() {
-        let fed = report::fill(state, &input[at..], work, out);
-        let written = fed.written;
-        io::write_all(STDOUT_FILENO, &out[0..written]);
+        let fed = report::fill(state, &input[at..], work, lines);
+        out.write_all(&lines[..fed.written])?;
         state = fed.state;
-        let used = fed.used;
         // Never so, by report's law fill-goes-on: the buffer has room for a line.
-        if used == 0 {
+        if fed.used == 0 {
             break;
         }
-        at += used;
+        at += fed.used;
     }
-    state
+    Ok(state)
 }
 
 // Closes the report, and writes out its last line.
-fn end(report: Report, out: &mut [u8]) {
-    let last = report::close(report, out);
-    io::write_all(STDOUT_FILENO, &out[0..last]);
+fn end<W: Write>(report: Report, lines: &mut [u8], out: &mut W) -> io::Result<()> {
+    let last = report::close(report, lines);
+    out.write_all(&lines[..last])
 }
 
-fn main() {
-    let mut input = io::large_buffer();
-    let mut out = [0u8; LINES];
+// Reads an image to its end, and writes its report.
+fn scrub<R: Read, W: Write>(image: &mut R, out: &mut W) -> io::Result<()> {
+    let mut input = [0u8; INPUT];
+    let mut lines = [0u8; LINES];
     let mut work = [0u8; MOST_DATA];
     let mut state = report::new();
-    let mut turns = u64::MAX;
-    while turns > 0 {
-        let got = libc::read(STDIN_FILENO, &mut input);
-        let count = io::count(got, &input);
+    for _ in 0..u64::MAX {
+        let count = image.read(&mut input)?;
         if count == 0 {
             break;
         }
-        state = pass(state, &input[..count], &mut work, &mut out);
-        turns -= 1;
+        state = pass(state, &input[..count], &mut work, &mut lines, out)?;
     }
-    end(state, &mut out);
+    end(state, &mut lines, out)
+}
+
+fn main(rt: HostRuntime) -> io::Result<()> {
+    scrub(&mut rt.reader(), &mut io::writer(&rt))
 }
