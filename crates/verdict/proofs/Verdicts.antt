@@ -96,14 +96,14 @@ module _ (members : List ℕ) (torn : List Bool) where
 
   pub judged_case : Judged (judged members torn)
   unfolding judged judged_at
-  judged_case = by_tests (ltb 0 (count (bads members))) (ltb 0 (count (uncheckeds members))) (ltb 0 (count torn)) refl refl refl
+  judged_case = by_tests_lem (ltb 0 (count (bads members))) (ltb 0 (count (uncheckeds members))) (ltb 0 (count torn)) refl refl refl
     where
-      by_tests : (b u t : Bool) → ltb 0 (count (bads members)) ≡ b → ltb 0 (count (uncheckeds members)) ≡ u → ltb 0 (count torn) ≡ t → Judged (by_tests b u t)
-      by_tests true u t p q r = of_bad (ltb-true 0 (count (bads members)) p)
-      by_tests false true t p q r = of_unchecked (omega (arith, ltb-false 0 (count (bads members)) p)) (ltb-true 0 (count (uncheckeds members)) q)
-      by_tests false false true p q r =
+      by_tests_lem : (b u t : Bool) → ltb 0 (count (bads members)) ≡ b → ltb 0 (count (uncheckeds members)) ≡ u → ltb 0 (count torn) ≡ t → Judged (by_tests b u t)
+      by_tests_lem true u t p q r = of_bad (ltb-true 0 (count (bads members)) p)
+      by_tests_lem false true t p q r = of_unchecked (omega (arith, ltb-false 0 (count (bads members)) p)) (ltb-true 0 (count (uncheckeds members)) q)
+      by_tests_lem false false true p q r =
           of_torn (omega (arith, ltb-false 0 (count (bads members)) p)) (omega (arith, ltb-false 0 (count (uncheckeds members)) q)) (ltb-true 0 (count torn) r)
-      by_tests false false false p q r =
+      by_tests_lem false false false p q r =
           of_clean (omega (arith, ltb-false 0 (count (bads members)) p)) (omega (arith, ltb-false 0 (count (uncheckeds members)) q)) (omega (arith, ltb-false 0 (count torn) r))
 
   pub judged-clean : (judged members torn ≡ says_clean) ↔ (NoFlag (bads members) × NoFlag (uncheckeds members) × NoFlag torn)
@@ -237,7 +237,7 @@ module _ (bytes : List ℕ) where
 
   pub nonzero-at : (k : ℕ) → get_or (nonzero bytes) k false ≡ not (eqb (get_or bytes k 0) 0)
   unfolding nonzero
-  nonzero-at k = ListN.get_d_map (λ x. not (eqb x 0)) bytes k 0
+  nonzero-at k = ListN.get_or-map (λ x. not (eqb x 0)) bytes k 0
 
   zero_said : (k : ℕ) → get_or (nonzero bytes) k false ≡ false → get_or bytes k 0 ≡ 0
   zero_said k e = eqb-true (get_or bytes k 0) 0 (not-false (eqb (get_or bytes k 0) 0) (sym (nonzero-at k) ∙ e))

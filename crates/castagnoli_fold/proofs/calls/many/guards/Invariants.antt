@@ -1,0 +1,18 @@
+-- `castagnoli_fold::calls::many::guards` meets its contract. The invariant: the first m checks are known, and the next run begins at `at`.
+-- Assumes nothing.
+use mathlib.Core.Path.{◌≡◌, ap, ◌∙◌}
+use Prim.Native.Nat.{ℕ, ◌-◌, ◌*◌, ◌≤◌, min}
+use native.Mathlib.Omega.{arith}
+use lib.ListN.{length, take, drop, length-set}
+use Rattle.castagnoli.specs.Castagnoli.{crc32c}
+use Rattle.castagnoli_fold.specs.Many.{Known}
+use Rattle.castagnoli_rows.proofs.Puts.{set_more}
+use Rattle.castagnoli_fold.proofs.Strides.{rest_of, next-run, guards_of_each}
+use borrow.Author.Rules.{rules}
+use Rattle.castagnoli_fold.proofs.calls.many.guards.Given as goal
+
+abbrev pub invariant-loop-m : goal.invariant-loop-m
+invariant-loop-m l = (l.count ≤ l.m) × (l.m ≤ 16) × (l.at ≡ min (l.m * l.stride) (length l.bytes)) × (length l.out ≡ 16) × Known l.stride l.bytes l.out l.m
+
+abbrev pub decreases-loop-m : goal.decreases-loop-m
+decreases-loop-m l = 16 - l.m

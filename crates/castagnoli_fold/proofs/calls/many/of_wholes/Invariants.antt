@@ -1,0 +1,22 @@
+-- `castagnoli_fold::calls::many::of_wholes` meets its contract. The invariant: the buffer is ready, and the checks stored so far are known.
+-- Assumes nothing.
+use mathlib.Core.Path.{◌≡◌, refl, ap, ap₂, ◌∙◌}
+use mathlib.Core.List.{List}
+use Prim.Native.Nat.{ℕ, ◌+◌, ◌-◌, ◌*◌, ◌≤◌}
+use native.Mathlib.Omega.{arith}
+use lib.ListN.{length, take, drop, length-drop, length-set}
+use lib.Seq.{length-take-le}
+use Rattle.castagnoli.specs.Castagnoli.{start, advance, guard_of, crc32c}
+use Rattle.castagnoli_rows.specs.Folds.{Ready}
+use Rattle.castagnoli_fold.specs.Heads.{head_of}
+use Rattle.castagnoli_fold.specs.Many.{Known}
+use Rattle.castagnoli_rows.proofs.Folding.{zeros-at}
+use Rattle.castagnoli_rows.proofs.Puts.{set_more}
+use borrow.Author.Rules.{rules}
+use Rattle.castagnoli_fold.proofs.calls.many.of_wholes.Given as goal
+
+abbrev pub invariant-loop-k : goal.invariant-loop-k
+invariant-loop-k l = (l.k ≤ l.count) × (length l.out ≡ 16) × Ready 448 3648 (head_of l.register) l.w × Known l.stride l.bytes l.out l.k
+
+abbrev pub decreases-loop-k : goal.decreases-loop-k
+decreases-loop-k l = l.count - l.k

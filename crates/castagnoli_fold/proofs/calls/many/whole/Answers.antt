@@ -1,0 +1,25 @@
+-- `castagnoli_fold::calls::many::whole` meets its contract.
+-- Assumes nothing.
+use Prim.Native.Nat.{◌-◌}
+use native.Mathlib.Nat.{div-le_self}
+use native.Mathlib.Omega.{arith}
+use mathlib.Core.Path.{sym, subst}
+use Rattle.castagnoli_fold.specs.Many.{Whole}
+use Rattle.castagnoli_fold.proofs.Strides.{all_whole, some-whole}
+use borrow.Author.Rules.{rules}
+use Rattle.castagnoli_fold.proofs.calls.many.whole.Goals as goal
+
+pub returns-then-stride-eq0 : goal.returns-then-stride-eq0
+returns-then-stride-eq0 c =
+    let a = c.args in
+    all_whole a.stride a.end (omega arith) (omega arith)
+
+pub overflow_add-end : goal.overflow_add-end
+overflow_add-end c =
+    let a = c.args in
+    omega (arith, div-le_self (a.end - 4096) a.stride)
+
+pub returns : goal.returns
+returns c =
+    let a = c.args in
+    subst (Whole a.stride a.end) (sym c.least.ensures) (some-whole a.stride a.end (omega arith) (omega arith))

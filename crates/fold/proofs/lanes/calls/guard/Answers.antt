@@ -1,0 +1,9 @@
+-- `fold::lanes::calls::guard` meets its contract.
+-- Assumes nothing.
+use Rattle.crc.specs.Guard.{guard}
+use borrow.Author.Rules.{rules}
+use Rattle.fold.proofs.lanes.calls.guard.Goals as goal
+
+pub returns : goal.returns
+unfolding guard
+returns c = c.run.ensures

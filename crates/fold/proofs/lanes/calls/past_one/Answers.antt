@@ -1,0 +1,13 @@
+-- `fold::lanes::calls::past_one` meets its contract.
+-- Assumes nothing.
+use mathlib.Core.Path.{ap, ◌∙◌}
+use Prim.Native.Nat.{◌*◌, ◌%◌}
+use lib.Bits.{bit_xor}
+use Rattle.fold.proofs.Wordwise.{one_more}
+use borrow.Author.Rules.{rules}
+use Rattle.fold.proofs.lanes.calls.past_one.Goals as goal
+
+pub returns : goal.returns
+returns c =
+    let a = c.args in
+    ap (bit_xor (a.register % 256 * 256)) c.left_of.ensures ∙ one_more a.register a.byte (search rules) (search rules)

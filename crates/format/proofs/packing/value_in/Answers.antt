@@ -1,0 +1,15 @@
+-- `format::value_in` meets its contract. Assumes nothing.
+use mathlib.Core.Path.{◌≡◌, sym}
+use Prim.Native.Nat.{◌<◌}
+use native.Mathlib.Nat.{mod-eq_of_lt}
+use Rattle.format.proofs.Laws.{two_bytes, four_bytes}
+use borrow.Author.Rules.{rules}
+use Rattle.format.proofs.packing.value_in.Goals as goal
+
+pub returns-then-method-eq-LARGE : goal.returns-then-method-eq-LARGE
+returns-then-method-eq-LARGE c =
+    let small : c.args.register < 4294967296 = search rules in
+    rw (four_bytes c.args.method c.if-method-eq-LARGE.true) (sym (mod-eq_of_lt small))
+
+pub returns : goal.returns
+returns c = rw (two_bytes c.args.method c.if-method-eq-LARGE.false)

@@ -1,0 +1,16 @@
+-- `tag::write` meets its contract. Assumes nothing.
+use Rattle.tag.proofs.Within.{written-at-once, written_by_fields}
+use borrow.Author.Rules.{rules}
+use Rattle.tag.proofs.write.Goals as goal
+
+pub returns-then-quarter-eq2 : goal.returns-then-quarter-eq2
+returns-then-quarter-eq2 c =
+    let a = c.args in
+    written-at-once a.bytes.now a.at a.quarter a.fields c.if-quarter-eq2.true c.eight_bytes-tag.result c.put.new.dst
+    c.eight_bytes-tag.ensures c.put.ensures
+
+pub returns : goal.returns
+returns c =
+    let a = c.args in
+    written_by_fields a.bytes.now a.at a.quarter a.fields c.put_number.new.bytes c.put_number-2.new.bytes c.put_number-3.new.bytes
+    c.put_number.ensures c.put_number-2.ensures c.put_number-3.ensures
