@@ -1,0 +1,25 @@
+-- `stripe::make_data` meets its contract. The invariant: the pieces put so far are those of the combination, which does not look at where they are put.
+-- Assumes nothing.
+use mathlib.Core.Path.{◌≡◌, refl, sym, ap, ap₂, ◌∙◌}
+use mathlib.Core.List.{List}
+use Prim.Native.Nat.{ℕ, ◌+◌, ◌-◌, ◌*◌, ◌%◌, ◌≤◌}
+use native.Mathlib.Omega.{arith}
+use lib.ListN.{length}
+use lib.Seq.{sets, length-sets}
+use Rattle.format.specs.Formats.{piece_length}
+use Rattle.format.specs.Methods.{format_of}
+use Rattle.format.proofs.Sizes.{times-next}
+use Rattle.stripe.specs.Tables.{span}
+use Rattle.stripe.specs.Stripes.{others_data}
+use Rattle.stripe.proofs.Pieces.{span_none, span-all, put_next, piece-whole, others_same}
+use Rattle.stripe.proofs.Rows.{length-span, length-others_data}
+use borrow.Author.Rules.{rules}
+use Rattle.stripe.proofs.make_data.Given as goal
+
+abbrev pub invariant-loop-from : goal.invariant-loop-from
+invariant-loop-from l =
+    (l.from ≤ (format_of l.method).data_length) × (l.from % piece_length ≡ 0) × (length l.piece ≡ piece_length)
+    × (l.bytes ≡ sets l.initial.bytes ((format_of l.method).block_length * l.member) (span 0 l.from (others_data (format_of l.method) l.members l.member l.initial.bytes)))
+
+abbrev pub decreases-loop-from : goal.decreases-loop-from
+decreases-loop-from l = (format_of l.method).data_length - l.from

@@ -1,0 +1,25 @@
+-- `stripe::row` meets its contract. The invariant: the rows of the members still to come, added to the row now, give the row due.
+-- Assumes nothing.
+use mathlib.Core.Path.{◌≡◌, refl, sym, ap, ◌∙◌}
+use mathlib.Core.Logic.{⊎_elim}
+use Prim.Native.Nat.{ℕ, ◌+◌, ◌-◌, ◌*◌, ◌≤◌}
+use native.Mathlib.Omega.{arith}
+use lib.ListN.{length, drop}
+use mathlib.Core.List.{List}
+use Rattle.format.specs.Methods.{format_of}
+use Rattle.format.proofs.Sizes.{times-next}
+use Rattle.xor.specs.Xors.{xors, add_all}
+use Rattle.xor.proofs.Lists.{length-xors}
+use Rattle.stripe.specs.Tables.{span}
+use Rattle.stripe.specs.Stripes.{others_data}
+use Rattle.stripe.proofs.Rows.{member_rows, row_whole, row_turn, row_skip, row_done, lent-span}
+use borrow.Author.Rules.{rules}
+use Rattle.stripe.proofs.row.Given as goal
+
+abbrev pub invariant-loop-member : goal.invariant-loop-member
+invariant-loop-member l =
+    (length l.row ≡ 128) × (l.member ≤ l.members)
+    × (add_all l.row (drop l.member (member_rows (format_of l.method) l.at 128 l.members l.skip l.bytes)) ≡ span l.at 128 (others_data (format_of l.method) l.members l.skip l.bytes))
+
+abbrev pub decreases-loop-member : goal.decreases-loop-member
+decreases-loop-member l = l.members - l.member

@@ -1,0 +1,48 @@
+-- `stripe::sealing::seal_refusal` meets its contract.
+-- Assumes nothing.
+use mathlib.Core.Path.{◌≡◌, sym, ◌∙◌}
+use Prim.Native.Nat.{◌-◌}
+use native.Mathlib.Omega.{arith}
+use Rattle.format.proofs.Sizes.{block-times, data_times}
+use Rattle.tag.specs.Blocks.{format_at}
+use Rattle.layout.specs.Ranges.{Sound}
+use Rattle.layout.proofs.Ranges.{stripe_sound}
+use Rattle.stripe.proofs.Seals.{seal_nowhere, seal_content, seal_length, seal_accepted}
+use borrow.Author.Rules.{rules}
+use Rattle.stripe.proofs.sealing.seal_refusal.Goals as goal
+
+pub returns-then-refusal-ne0 : goal.returns-then-refusal-ne0
+returns-then-refusal-ne0 c =
+    let k = c.stripe_refusal-refusal in
+    let a = c.args in
+    k.ensures ∙ seal_nowhere a.array a.stripe a.content a.length (λ e. c.if-refusal-ne0.true (k.ensures ∙ e))
+
+pub overflow_sub-members : goal.overflow_sub-members
+overflow_sub-members c =
+    let fine : Sound c.args.array = let a = c.args in (stripe_sound a.array a.stripe (sym c.stripe_refusal-refusal.ensures ∙ c.if-refusal-ne0.false)).array in
+    omega (arith, fine.few)
+
+pub data_at-requires : goal.data_at-requires
+data_at-requires c =
+    let fine : Sound c.args.array = let a = c.args in (stripe_sound a.array a.stripe (sym c.stripe_refusal-refusal.ensures ∙ c.if-refusal-ne0.false)).array in
+    let a = c.args in omega (arith, data_times (format_at a.array) (a.array.members - 1), fine.many)
+
+pub returns-then-content-data_at : goal.returns-then-content-data_at
+returns-then-content-data_at c =
+    let a = c.args in
+    seal_content a.array a.stripe a.content a.length (sym c.stripe_refusal-refusal.ensures ∙ c.if-refusal-ne0.false) (rw c.data_at.ensures at c.if-content-data_at.true)
+
+pub block_at-requires : goal.block_at-requires
+block_at-requires c =
+    let fine : Sound c.args.array = let a = c.args in (stripe_sound a.array a.stripe (sym c.stripe_refusal-refusal.ensures ∙ c.if-refusal-ne0.false)).array in
+    let a = c.args in omega (arith, block-times (format_at a.array) a.array.members, fine.many)
+
+pub returns-then-length-block_at : goal.returns-then-length-block_at
+returns-then-length-block_at c =
+    let a = c.args in
+    seal_length a.array a.stripe a.content a.length (sym c.stripe_refusal-refusal.ensures ∙ c.if-refusal-ne0.false) (c.if-content-data_at.false ∙ c.data_at.ensures) (rw c.block_at.ensures at c.if-length-block_at.true)
+
+pub returns : goal.returns
+returns c =
+    let a = c.args in
+    seal_accepted a.array a.stripe a.content a.length (sym c.stripe_refusal-refusal.ensures ∙ c.if-refusal-ne0.false) (c.if-content-data_at.false ∙ c.data_at.ensures) (c.if-length-block_at.false ∙ c.block_at.ensures)

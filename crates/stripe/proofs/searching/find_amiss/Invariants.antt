@@ -1,0 +1,20 @@
+-- `stripe::searching::find_amiss` meets its contract. The invariant: the lowest from here on is the lowest of all.
+-- Assumes nothing.
+use mathlib.Core.Path.{◌≡◌, sym, ◌∙◌}
+use Prim.Native.Nat.{◌+◌, ◌-◌, ◌≤◌, ◌<◌}
+use native.Mathlib.Omega.{arith}
+use lib.ListN.{length, drop}
+use Rattle.verdict.specs.Verdicts.{lowest}
+use Rattle.verdict.proofs.Flags.{lowest_miss, lowest_hit, lowest_end}
+use Rattle.stripe.specs.Tables.{table}
+use Rattle.stripe.specs.InPart.{amiss}
+use Rattle.stripe.proofs.Tables.{length-table, get_or-table}
+use Rattle.stripe.proofs.Scrubs.{member_place, member_room}
+use borrow.Author.Rules.{rules}
+use Rattle.stripe.proofs.searching.find_amiss.Given as goal
+
+abbrev pub invariant-loop-member : goal.invariant-loop-member
+invariant-loop-member l = (l.member ≤ l.members) × (l.member + lowest (drop l.member (table l.array.members (amiss l.array l.stripe l.bytes))) ≡ lowest (table l.array.members (amiss l.array l.stripe l.bytes)))
+
+abbrev pub decreases-loop-member : goal.decreases-loop-member
+decreases-loop-member l = l.members - l.member

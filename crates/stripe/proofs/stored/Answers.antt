@@ -1,0 +1,25 @@
+-- `stripe::stored` meets its contract. Assumes nothing.
+use mathlib.Core.Path.{ap₂}
+use Prim.Native.Nat.{ℕ, ◌+◌}
+use native.Mathlib.Omega.{arith}
+use Rattle.format.specs.Methods.{format_of}
+use Rattle.stripe.proofs.Checked.{stored_there}
+use borrow.Author.Rules.{rules}
+use Rattle.stripe.proofs.stored.Goals as goal
+
+pub overflow_add-at : goal.overflow_add-at
+overflow_add-at c = let F = format_of c.args.method in omega arith
+
+pub fields_at-requires : goal.fields_at-requires
+fields_at-requires c =
+    let F = format_of c.args.method in record {
+      quarter_in_bounds = omega (arith, F.block_parts, F.tag_quarters, c.block_at.ensures, c.data_length.ensures, c.quarter.ensures);
+      quarter_bound = omega (arith, F.quarter-most, c.quarter.ensures);
+    }
+
+pub returns : goal.returns
+returns c =
+    let a = c.args in
+    stored_there (format_of a.method) a.member (c.block_at.result + c.data_length.result) c.quarter.result a.bytes.now
+    (ap₂ (λ (x y : ℕ). x + y) c.block_at.ensures c.data_length.ensures) c.quarter.ensures c.fields_at.result
+    c.fields_at.ensures.guard_value c.fields_at.ensures.application_value c.fields_at.ensures.reference_value

@@ -1,0 +1,21 @@
+-- `stripe::stored_combined` meets its contract. The invariant: what was combined so far, with the guards of the members still to come, gives what is
+-- due. Assumes nothing.
+use mathlib.Core.Path.{◌≡◌, refl, sym, ap, ap₂, ◌∙◌}
+use mathlib.Core.Logic.{⊎_elim}
+use Prim.Native.Nat.{ℕ, ◌+◌, ◌-◌, ◌*◌, ◌≤◌}
+use native.Mathlib.Omega.{arith}
+use lib.Bits.{bit_xor}
+use lib.ListN.{length, drop}
+use Rattle.format.specs.Methods.{format_of}
+use Rattle.format.proofs.Sizes.{times-next}
+use Rattle.verdict.specs.Verdicts.{combined_guards}
+use Rattle.stripe.specs.Stripes.{others_guards}
+use Rattle.stripe.proofs.Carried.{walked, guards_whole, guards-taken, guards-passed, guards-done}
+use borrow.Author.Rules.{rules}
+use Rattle.stripe.proofs.stored_combined.Given as goal
+
+abbrev pub invariant-loop-member : goal.invariant-loop-member
+invariant-loop-member l = (l.member ≤ l.members) × (bit_xor l.guards (combined_guards (drop l.member (walked (format_of l.method) l.members l.skip l.bytes))) ≡ others_guards (format_of l.method) l.members l.skip l.bytes)
+
+abbrev pub decreases-loop-member : goal.decreases-loop-member
+decreases-loop-member l = l.members - l.member
