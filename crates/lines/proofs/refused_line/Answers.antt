@@ -1,0 +1,15 @@
+-- `lines::refused_line` meets its contract. Assumes nothing.
+use native.Mathlib.Omega.{arith}
+use borrow.Author.Rules.{rules}
+use Rattle.lines.specs.Lines.{refused_line}
+use Rattle.lines.specs.Text.{refused_word}
+use Rattle.lines.proofs.Lines.{none_written, fits-there}
+use Rattle.lines.proofs.Texts.{text_behind}
+use Rattle.lines.proofs.refused_line.Goals as goal
+
+pub returns-then-out-lt-ROOM : goal.returns-then-out-lt-ROOM
+returns-then-out-lt-ROOM c = none_written _ _ (omega arith)
+
+pub returns : goal.returns
+unfolding refused_line refused_word
+returns c = fits-there c.if-out-lt-ROOM.false (text_behind c.word_and_number-line.ensures.written c.put.ensures)
