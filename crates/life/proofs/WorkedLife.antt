@@ -151,11 +151,15 @@ module _ (a : Array) (block other : ℕ) (sound : SoundStripe a (stripe_of a blo
   cons : {x y : Answer} {xs ys : List Answer} → x ≡ y → xs ≡ ys → x ∷ xs ≡ y ∷ ys
   cons e f = ap₂ (λ (x : Answer) (xs : List Answer). x ∷ xs) e f
 
+  -- no events are left, and so no answers
+  none_left : {bytes : List ℕ} {answers : List Answer} {last : List ℕ} → LifeRun a stripe bytes [] answers last → answers ≡ []
+  none_left ended = refl
+
   pub every_run : {answers : List Answer} {last : List ℕ} → LifeRun a stripe (sealed a stripe content) (worked_events a block other content new out) answers last → answers ≡ worked_answers a block content new
   every_run run = listed run (run-kept a stripe sound small run (opened a content) whole one-at_a_time (sealed-stands a stripe content sound long)).0
     where
       listed : {answers : List Answer} {last : List ℕ} → LifeRun a stripe (sealed a stripe content) (worked_events a block other content new out) answers last → AllAsKept a (opened a content) whole (worked_events a block other content new out) answers → answers ≡ worked_answers a block content new
-      listed (lost (updated number e f (served r₁ p₁ q₁ (served r₂ p₂ q₂ (rebuilt n₃ p₃ q₃ (lost (served r₄ p₄ q₄ (served r₅ p₅ q₅ ended)))))))) kept =
+      listed (lost (updated number e f (served r₁ p₁ q₁ (served r₂ p₂ q₂ (rebuilt n₃ p₃ q₃ (lost (served r₄ p₄ q₄ (served r₅ p₅ q₅ tail)))))))) kept =
           let done : number ≡ 0 = e ∙ accepted-beside in
           let contents = cond (eqb number 0) (set (opened a content) (index_of a other) new) (opened a content) in
           let answers = kept.1.1 in
@@ -165,4 +169,4 @@ module _ (a : Array) (block other : ℕ) (sound : SoundStripe a (stripe_of a blo
           (cons (answers.1.1.0 ∙ rw (lt-ltb first a.members (own_below a block sound), first_is))
           (cons refl
           (cons (answers.1.1.1.1.0 ∙ read_done contents (lacks second) other true new (eq-eqb second second refl) (kept_new number done))
-          (cons (answers.1.1.1.1.1.0 ∙ read_done contents (lacks second) block false old (ne_eqb first second (λ q. members-apart a block other sound two beside (sym q))) (kept-old number done)) refl)))))))
+          (cons (answers.1.1.1.1.1.0 ∙ read_done contents (lacks second) block false old (ne_eqb first second (λ q. members-apart a block other sound two beside (sym q))) (kept-old number done)) (none_left tail))))))))
