@@ -1,6 +1,14 @@
 // Reads an image on standard input and writes its report to standard output.
 #![tactic(auto)]
 
+ghost use Rattle.std.specs.Prelude.{◌<◌, ◌≤◌, List, ℕ, length, IfOk, IfSome, OnOk};
+ghost use Rattle.std.specs.Io.KnownBytes.{Appends};
+ghost use Rattle.lines.specs.Lines.{line_room};
+ghost use Rattle.report.specs.Feeding.{close_line};
+ghost use Rattle.report.specs.Reports.{report_of};
+ghost use Rattle.report.specs.Runs.{Reached};
+ghost use Rattle.scrub_report.specs.Passes.{Passes};
+
 use format::MOST_DATA;
 use report::Report;
 use std::io;
@@ -19,14 +27,17 @@ fn pass<W: Write>(
     work: &mut [u8],
     lines: &mut [u8],
     out: &mut W,
-) -> io::Result<Report> {
+) -> io::Result<Report>
+    ensures { Reached report work.old → line_room ≤ length lines.old → IfOk result (λ s. (said : List ℕ) × Passes report work.old input.now s work.new said
+        × Appends (W.contents out.old) (W.contents out.new) said) }
+{
     let mut state = report;
     let mut at: usize = 0;
     while at < input.len() {
         let fed = report::fill(state, &input[at..], work, lines);
         out.write_all(&lines[..fed.written])?;
         state = fed.state;
-        // Never so, by report's law fill-goes-on: the buffer has room for a line.
+        // Never so, by report's law fill_goes_on: the buffer has room for a line.
         if fed.used == 0 {
             break;
         }
@@ -36,13 +47,17 @@ fn pass<W: Write>(
 }
 
 // Closes the report, and writes out its last line.
-fn end<W: Write>(report: Report, lines: &mut [u8], out: &mut W) -> io::Result<()> {
+fn end<W: Write>(report: Report, lines: &mut [u8], out: &mut W) -> io::Result<()>
+    ensures { OnOk result (Appends (W.contents out.old) (W.contents out.new) (close_line report (length lines.old))) }
+{
     let last = report::close(report, lines);
     out.write_all(&lines[..last])
 }
 
 // Reads an image to its end, and writes its report.
-fn scrub<R: Read, W: Write>(image: &mut R, out: &mut W) -> io::Result<()> {
+fn scrub<R: Read, W: Write>(image: &mut R, out: &mut W) -> io::Result<()>
+    ensures { OnOk result (IfSome (R.remaining image.old) (λ bytes. length bytes < u64.MAX → Appends (W.contents out.old) (W.contents out.new) (report_of bytes))) }
+{
     let mut input = [0u8; INPUT];
     let mut lines = [0u8; LINES];
     let mut work = [0u8; MOST_DATA];
