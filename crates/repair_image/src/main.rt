@@ -1,6 +1,15 @@
 // Reads an image on standard input, writes the mended image to standard output and the list to standard error.
 #![tactic(auto)]
 
+ghost use Rattle.std.specs.Prelude.{◌<◌, ◌≤◌, List, ℕ, length, IfOk, IfSome, OnOk};
+ghost use Rattle.std.specs.Io.KnownBytes.{Appends};
+ghost use Rattle.format.specs.Formats.{most_stripe};
+ghost use Rattle.lines.specs.Lines.{line_room};
+ghost use Rattle.repair.specs.Feeding.{closing};
+ghost use Rattle.repair.specs.Repairs.{Output, repair_of};
+ghost use Rattle.repair.specs.Runs.{Reached};
+ghost use Rattle.repair_image.specs.Passes.{Passes};
+
 use repair::{ROOM, Repair};
 use std::io;
 use std::io::{Read, Write};
@@ -30,7 +39,10 @@ fn put_out<I: Write, L: Write>(
     lines: &[u8],
     mended: &mut I,
     list: &mut L,
-) -> Result<(), Stop> {
+) -> Result<(), Stop>
+    ensures image { OnOk result (Appends (I.contents mended.old) (I.contents mended.new) bytes.now) }
+    ensures list { OnOk result (Appends (L.contents list.old) (L.contents list.new) lines.now) }
+{
     if mended.write_all(bytes).is_err() {
         return Err(Stop::Image);
     }
@@ -47,14 +59,17 @@ fn pass<I: Write, L: Write>(
     lines: &mut [u8],
     mended: &mut I,
     list: &mut L,
-) -> Result<Repair, Stop> {
+) -> Result<Repair, Stop>
+    ensures { Reached repair held.old → most_stripe ≤ length bytes.old → line_room ≤ length lines.old → IfOk result (λ s. (put : Output) × Passes repair held.old input.now s held.new put
+        × Appends (I.contents mended.old) (I.contents mended.new) put.image × Appends (L.contents list.old) (L.contents list.new) put.list) }
+{
     let mut state = repair;
     let mut at: usize = 0;
     while at < input.len() {
         let fed = repair::feed(state, &input[at..], held, bytes, lines);
         state = fed.state;
         put_out(&bytes[..fed.written], &lines[..fed.listed], mended, list)?;
-        // Never so, by repair's law feed-goes-on: there is room for a stripe and for a line.
+        // Never so, by repair's law feed_goes_on: there is room for a stripe and for a line.
         if fed.used == 0 {
             break;
         }
@@ -64,7 +79,9 @@ fn pass<I: Write, L: Write>(
 }
 
 // Closes the repair, and writes out the list's last line.
-fn end<L: Write>(repair: Repair, lines: &mut [u8], list: &mut L) -> Result<(), Stop> {
+fn end<L: Write>(repair: Repair, lines: &mut [u8], list: &mut L) -> Result<(), Stop>
+    ensures { OnOk result (Appends (L.contents list.old) (L.contents list.new) (closing repair (length lines.old))) }
+{
     let last = repair::close(repair, lines);
     list.write_all(&lines[..last])?;
     Ok(())
@@ -75,7 +92,10 @@ fn mend<R: Read, I: Write, L: Write>(
     image: &mut R,
     mended: &mut I,
     list: &mut L,
-) -> Result<(), Stop> {
+) -> Result<(), Stop>
+    ensures image { OnOk result (IfSome (R.remaining image.old) (λ bytes. length bytes < u64.MAX → Appends (I.contents mended.old) (I.contents mended.new) (repair_of bytes).image)) }
+    ensures list { OnOk result (IfSome (R.remaining image.old) (λ bytes. length bytes < u64.MAX → Appends (L.contents list.old) (L.contents list.new) (repair_of bytes).list)) }
+{
     let mut input = [0u8; INPUT];
     let mut lines = [0u8; LINES];
     let mut held = [0u8; ROOM];

@@ -12,7 +12,8 @@ ghost use Rattle.scrub_report.specs.Passes.{Passes};
 use format::MOST_DATA;
 use report::Report;
 use std::io;
-use std::io::{Read, Write};
+use std::io::{ErrorKind, Read, Write};
+use std::process::ExitCode;
 
 // Bytes of one read.
 const INPUT: usize = 65536;
@@ -72,6 +73,11 @@ fn scrub<R: Read, W: Write>(image: &mut R, out: &mut W) -> io::Result<()>
     end(state, &mut lines, out)
 }
 
-fn main(rt: HostRuntime) -> io::Result<()> {
-    scrub(&mut rt.reader(), &mut io::writer(&rt))
+fn main(rt: HostRuntime) -> io::Result<ExitCode> {
+    match scrub(&mut rt.reader(), &mut io::writer(&rt)) {
+        Ok(()) => Ok(ExitCode::SUCCESS),
+        // Nobody reads the report any more: that needs no word.
+        Err(e) if e.kind() == ErrorKind::BrokenPipe => Ok(ExitCode::FAILURE),
+        Err(e) => Err(e),
+    }
 }

@@ -1,6 +1,7 @@
 -- Each piece that is read is passed; at the end of the input the close ends the report of all that was read.
-use Rattle.std.proofs.Common.{◌≤◌, ◌-◌, ◌^◌, [], ◌++◌, length, take, refl, arith, rules, length-append, length-take}
+use Rattle.std.proofs.Common.{[], ◌++◌, take, refl, arith, rules, length-append, length-take}
 use Rattle.std.proofs.KnownBytes.{Appends-nil, Appends-trans, Consumes-nil, Consumes-trans}
+use Rattle.std.proofs.Math.Nat.{le_trans}
 use Rattle.std.proofs.lemmas.Result.{on_ok_weaker}
 use Rattle.report.specs.Runs.{begun}
 use Rattle.scrub_report.proofs.Passing.{nothing_passes, both_pass, all_passed}
@@ -40,7 +41,7 @@ returns g c =
     let (given, said, long, wide, many, p, read, written) = c.loop.invariant in
     on_ok_weaker _
     (λ last. elim c.loop-test.branch [
-      | else-loop-test w ↦ let turns : 2 ^ 64 - 1 ≤ length given = omega arith in gave_many _ _ given _ _ read turns
+      | else-loop-test w ↦ gave_many _ _ given _ _ read (le_trans w.loop-test.false many)
       | then-loop-test+in_ok-count+then-count-eq0 w ↦
           let bytes = w.in_ok-count.ensures.bytes in
           let none = w.if-count-eq0.true in
