@@ -87,7 +87,7 @@ fn end<L: Write>(repair: Repair, lines: &mut [u8], list: &mut L) -> Result<(), S
     Ok(())
 }
 
-// Reads an image to its end, and writes the mended image and the list.
+// Reads an image to its end, and writes the mended image and the list. The loop has turns for any image: a byte a turn.
 fn mend<R: Read, I: Write, L: Write>(
     image: &mut R,
     mended: &mut I,

@@ -55,7 +55,7 @@ fn end<W: Write>(report: Report, lines: &mut [u8], out: &mut W) -> io::Result<()
     out.write_all(&lines[..last])
 }
 
-// Reads an image to its end, and writes its report.
+// Reads an image to its end, and writes its report. The loop has turns for any image: a byte a turn.
 fn scrub<R: Read, W: Write>(image: &mut R, out: &mut W) -> io::Result<()>
     ensures { OnOk result (IfSome (R.remaining image.old) (λ bytes. length bytes < u64.MAX → Appends (W.contents out.old) (W.contents out.new) (report_of bytes))) }
 {
