@@ -1,7 +1,7 @@
 -- Runs at equal distances: which are whole, and their guards as a list.
 -- Assumes nothing.
 use mathlib.Core.Path.{◌≡◌, refl, sym, ap, ◌∙◌}
-use mathlib.Core.List.{List}
+use mathlib.Core.List.{List, [], ◌∷◌}
 use Prim.Native.Nat.{ℕ, zero, suc, ◌+◌, ◌-◌, ◌*◌, ◌/◌, ◌≤◌, ◌<◌, min}
 use native.Mathlib.Nat.{le_refl, mul-le-mul_right, zero-mul, suc-mul, mul-zero, le-div_iff_mul-le, div-lt_iff_lt-mul, le_of_suc-le-suc, not-suc-le-zero}
 use native.Mathlib.Decide.{dec_le, dec_lt}
@@ -50,6 +50,10 @@ unfolding guard
 past_end bytes m l stride over h =
     let further : length bytes ≤ l * stride = omega (arith, mul-le-mul_right stride h) in
     ap (λ (r : List ℕ). run 0 (take 512 r)) (drop_of_length-le bytes further) ∙ run-nil 0
+
+pub none_left : (bytes : List ℕ) → length bytes ≡ 0 → bytes ≡ []
+none_left [] h = refl
+none_left (x ∷ bytes) h = absurd (omega arith)
 
 -- a run that is not whole has all the bytes that are left
 pub rest_of : (bytes : List ℕ) (m stride n : ℕ) → n ≡ min (m * stride) (length bytes) → length bytes < m * stride + 512

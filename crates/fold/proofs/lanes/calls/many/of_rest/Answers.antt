@@ -6,7 +6,6 @@ use lib.ListN.{length}
 use Rattle.crc.specs.Guard.{guard, run}
 use Rattle.crc.proofs.Joined.{run-nil}
 use Rattle.fold.proofs.Strides.{none_left}
-use borrow.Author.Rules.{rules}
 use Rattle.fold.proofs.lanes.calls.many.of_rest.Goals as goal
 
 pub returns-then-bytes-eq0 : goal.returns-then-bytes-eq0
