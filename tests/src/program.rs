@@ -7,7 +7,7 @@ use std::io::{Read, Write};
 use std::process::{Child, ChildStderr, ChildStdin, ChildStdout, Command, Stdio};
 use std::thread;
 
-/// A program: the variable that names it, and where `rt check` leaves it.
+/// A program: the variable that names it, and where `./programs` leaves it.
 pub struct Program {
     variable: &'static str,
     built: &'static str,

@@ -1,5 +1,7 @@
 // CRC-32C: what it is, what it notices, and two bytes at a time through two tables of 256 entries. The tables are lent, so that a caller makes
 // them once; what is promised of `through` holds of any two.
+#![tactic(auto)]
+
 mod first;
 mod last;
 

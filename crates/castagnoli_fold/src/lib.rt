@@ -1,6 +1,8 @@
 // CRC-32C fast: a block of 4,096 bytes by folds and words, any other run by two tables.
 // The first fold is here. As x^(8 * 448) is a sum of five powers of x modulo the generator, 3,648 bytes of a block are taken away one after the
 // other, and added further on at five places each; 448 bytes are left.
+#![tactic(auto)]
+
 mod calls;
 
 ghost use Rattle.std.specs.Prelude.{◌≡◌, [], ◌∷◌, ◌+◌, ◌≤◌, ◌<◌, length, get_or};

@@ -1,6 +1,8 @@
 // What 448 bytes make of a register 0 of CRC-32C: by a fold to 128, and then by words.
 // The fold is here. As x^(8 * 128) is a sum of nine powers of x modulo the generator, 320 bytes are taken away one after the other, and added
 // further on at nine places each; 128 are left.
+#![tactic(auto)]
+
 mod rows;
 
 ghost use Rattle.std.specs.Prelude.{◌≡◌, [], ◌∷◌, ◌+◌, ◌≤◌, ◌<◌, length, get_or};

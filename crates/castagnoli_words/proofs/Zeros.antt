@@ -8,7 +8,7 @@ use lib.Bits.{bit_xor}
 use Rattle.xor.proofs.Bits.{bit_elim, odd-lt}
 use Rattle.crc.specs.Crc.{bits}
 use Rattle.castagnoli.specs.Reflected.{feed_down, step_down}
-use Rattle.castagnoli.specs.Castagnoli.{ones, advance, crc32c}
+use Rattle.castagnoli.specs.Castagnoli.{ones, crc32c}
 use Rattle.castagnoli.proofs.Combined.{blank}
 use Rattle.castagnoli_words.specs.Words.{on}
 use Rattle.castagnoli_words.proofs.Moves.{one, on_linear, on_none, on-on, on_swap, zeros-on}

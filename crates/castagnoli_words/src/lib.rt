@@ -1,5 +1,7 @@
 // Words of 64 bits modulo the generator of CRC-32C, the lowest bit first: each step moves one on by a fixed number of bits with a few shifts,
 // and adds another. `high` has the low bits of a word, moved up; `low` the others; `both` the two together.
+#![tactic(auto)]
+
 ghost use Rattle.std.specs.Prelude.{◌≡◌};
 ghost use Rattle.castagnoli_words.specs.Words.{rest, after, quad, half};
 

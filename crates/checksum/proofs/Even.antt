@@ -1,11 +1,9 @@
 -- The checksum asked for by itself is told of runs of even length and of no others. Assumes nothing.
 use mathlib.Core.Path.{◌≡◌, refl}
 use mathlib.Core.Logic.{◌≢◌}
-use mathlib.Core.Bool.{cond}
 use mathlib.Core.List.{List, [], ◌∷◌}
 use Prim.Native.Nat.{ℕ, ◌%◌}
 use borrow.Author.Tests.{eq-eqb, ne_eqb}
-use lib.Dec.{eqb}
 use lib.ListN.{length, replicate}
 use Rattle.checksum.specs.Checksum.{rotated, wrapped, taken, word, words, sums, checksum}
 use Rattle.checksum.specs.Asked.{sum_numbers}

@@ -1,6 +1,8 @@
 // The rotating checksum of sixteen-bit words: the sum is rotated left by one bit, then takes the next word in, the carry wrapped round. Here are
 // one word, and a block of 512 bytes by 32 lanes; `machine` takes any run of them, in pieces or whole, `many` sixteen blocks, and
 // `asked` a run that is asked for by itself.
+#![tactic(auto)]
+
 mod asked;
 mod machine;
 mod many;

@@ -20,7 +20,7 @@ use Rattle.xor.proofs.Bits.{bit_elim, odd-lt, xor_eq}
 use Rattle.xor.proofs.Lists.{get_or-xors, length-xors}
 use Rattle.crc.specs.Crc.{feed, bits, bits_of, bit_step, Bytes, Within}
 use Rattle.crc.specs.Guard.{generator, run, guard}
-use Rattle.crc.proofs.Linear.{step_linear, feed-bytes_linear, bits_of-xors, length-bits_of}
+use Rattle.crc.proofs.Linear.{feed-bytes_linear, bits_of-xors, length-bits_of}
 
 mod-mod-le : (n i j : ℕ) → i ≤ j → n % 2 ^ j % 2 ^ i ≡ n % 2 ^ i
 mod-mod-le n i j h =

@@ -5,9 +5,9 @@ use mathlib.Core.Logic.{◌≢◌}
 use mathlib.Core.List.{List, [], ◌∷◌}
 use Prim.Native.Nat.{ℕ, zero, suc, ◌+◌, ◌≤◌, ◌<◌}
 use native.Mathlib.Omega.{arith}
-use lib.ListN.{length, get_or, get_or-eq_default}
+use lib.ListN.{get_or, get_or-eq_default}
 use Rattle.crc.specs.Crc.{feed, bits, bits_of, bit_step, Within}
-use Rattle.crc.specs.Guard.{generator, run, guard}
+use Rattle.crc.specs.Guard.{run, guard}
 
 -- the generator with its highest term, as the last seventeen bits of three bytes; and zeros
 pub changed : List ℕ

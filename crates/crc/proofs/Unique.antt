@@ -7,7 +7,7 @@ use native.Mathlib.Nat.{add-mul, div-eq_of_lt, lt_of_lt_of_le, le-add_right, zer
 use native.Mathlib.Omega.{arith}
 use lib.Pow.{pow_pos, pow-add, pow_mono, shl_lt, high}
 use lib.Dec.{lit<}
-use lib.ListN.{length, get_or, replicate, length-replicate, length-append}
+use lib.ListN.{length, replicate, length-replicate, length-append}
 use lib.Bits.{bit_xor, xor_shr, xor_lt, xor_self}
 use Rattle.xor.specs.Xors.{xors}
 use Rattle.xor.proofs.Bits.{bit_elim, times_bit, xor_eq, xor-four, xor_shl}

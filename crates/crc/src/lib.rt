@@ -1,4 +1,6 @@
 // The guard of the T10 protection field, CRC-16, bit by bit: what it is, and what it notices.
+#![tactic(auto)]
+
 ghost use Rattle.std.specs.Prelude.{◌≡◌, [], ◌∷◌, ◌<◌};
 ghost use Rattle.crc.specs.Crc.{bit_step};
 ghost use Rattle.crc.specs.Guard.{generator, run};

@@ -51,6 +51,10 @@ past_end bytes m l stride over h =
     let further : length bytes ≤ l * stride = omega (arith, mul-le-mul_right stride h) in
     ap (λ (r : List ℕ). run 0 (take 512 r)) (drop_of_length-le bytes further) ∙ run-nil 0
 
+pub none_left : (bytes : List ℕ) → length bytes ≡ 0 → bytes ≡ []
+none_left [] h = refl
+none_left (x ∷ bytes) h = absurd (omega arith)
+
 -- a run that is not whole has all the bytes that are left
 pub rest_of : (bytes : List ℕ) (m stride n : ℕ) → n ≡ min (m * stride) (length bytes) → length bytes < m * stride + 512
     → take (length bytes - n) (drop n bytes) ≡ take 512 (drop (m * stride) bytes)

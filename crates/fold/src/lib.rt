@@ -1,6 +1,8 @@
 // Guards fast: a block of 512 bytes by four lanes of words, any other run word by word, and one of less than a word by two tables. Here are the
 // words as they are read, the first byte the lowest: their bytes are turned round once they are added up. `lanes` makes a block of them, and
 // the calls.
+#![tactic(auto)]
+
 mod lanes;
 
 ghost use Rattle.std.specs.Prelude.{◌≡◌, ◌+◌, ◌≤◌, length};

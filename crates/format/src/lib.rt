@@ -1,5 +1,7 @@
 // The formats of a block by their method numbers: their lengths, where a byte of a block goes, and their guards. Method 1 has the CRC, method 2 the
 // checksum, method 3 large blocks with CRC-32C; any other number means method 1.
+#![tactic(auto)]
+
 mod packing;
 mod positions;
 

@@ -1,5 +1,7 @@
 // Updates that enter their stripe in a record while they are open, and the recovery of a stripe that was left so; over the entries of a
 // record, read, counted, found and written.
+#![tactic(auto)]
+
 mod recovering;
 mod updating;
 

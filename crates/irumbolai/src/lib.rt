@@ -1,4 +1,6 @@
 // The C library: each call of include/irumbolai.h. A slice is a pointer and a length to C.
+#![tactic(auto)]
+
 mod joins;
 mod patrols;
 mod places;

@@ -1,4 +1,6 @@
 // Guards from guards and lengths alone, without the bytes.
+#![tactic(auto)]
+
 ghost use Rattle.std.specs.Prelude.{◌≡◌};
 ghost use Rattle.crc.specs.Guard.{generator};
 ghost use Rattle.join.specs.Remainders.{product, scaled};

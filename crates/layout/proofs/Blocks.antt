@@ -1,7 +1,7 @@
 -- Block numbers and pairs of a stripe and a data index: there, back, and the bounds. A block number has three digits,
 -- (g * d + i) * c + k, of which the stripe g * c + k keeps the first and the last. Assumes nothing.
 use Rattle.std.proofs.Common.{◌≡◌, ℕ, ◌+◌, ◌*◌, ◌/◌, ◌%◌, ◌^◌, ◌<◌, ◌≤◌, sym, ap, ◌∙◌, add-zero, mod-lt, add-mul, mul-le-mul, div-add-mod', zero-mul, mul-one, mul_right_comm, le-mul_of_pos_right, div-one, arith}
-use native.Mathlib.Nat.{mod-mod, mod-one, mul-add-mod_self_right}
+use native.Mathlib.Nat.{mod-one}
 use Rattle.layout.specs.Arrays.{data_members, block_count}
 use Rattle.layout.specs.Places.{parity_member, lowest_block, block_at, stripe_of, index_of}
 use Rattle.layout.specs.declared.Array.{Array}

@@ -1,5 +1,5 @@
 -- What a stripe is found by, once the stripe is one of the array's; and what lies beside it is then what lies there. Assumes nothing.
-use Rattle.std.proofs.Common.{◌≡◌, ℕ, ◌+◌, ◌*◌, ◌/◌, ◌%◌, ◌^◌, ◌<◌, ◌≤◌, ◌≢◌, sym, ap, ◌∙◌, ap₂, mod-eq_of_lt, div-le_self, arith, eq-eqb, ne_eqb}
+use Rattle.std.proofs.Common.{◌≡◌, ℕ, ◌+◌, ◌*◌, ◌/◌, ◌%◌, ◌^◌, ◌<◌, ◌≢◌, sym, ap, ◌∙◌, ap₂, mod-eq_of_lt, div-le_self, arith, eq-eqb, ne_eqb}
 use native.Mathlib.Decide.{ℕ_discrete}
 use Rattle.layout.specs.Arrays.{data_members}
 use Rattle.layout.specs.Places.{parity_member, lowest_block, lowest_cut, block_at, seat_of, index_at, beside_numbers, owner_refusal, owner_numbers}

@@ -1,5 +1,7 @@
 // Where the blocks of an array lie: from a block number to its stripe and member, and back.
 // A call decides first: its refusal number, 0 where nothing is refused; only then does it compute.
+#![tactic(auto)]
+
 ghost use Rattle.std.specs.Prelude.{◌≡◌, ◌-◌, ◌/◌, ◌%◌, ◌<◌, ◌≤◌, not};
 ghost use Rattle.layout.specs.Answers.{refuse, or_past};
 ghost use Rattle.layout.specs.Arrays.{array_of, no_array, within, row_fit, array_refusal, data_members, stripe_refusal, block_refusal};

@@ -1,4 +1,6 @@
 // The lines of a report, each written from the start of a lent buffer, and the header of an image.
+#![tactic(auto)]
+
 mod header;
 
 ghost use Rattle.std.specs.Prelude.{◌≡◌, ◌++◌, ◌+◌, ◌≤◌, length};

@@ -1,6 +1,6 @@
 -- A stripe is mended once: what is rebuilt scrubs clean, and differs in one member alone; all else is as it was; and a second time nothing is
 -- rebuilt, and the same is listed. Assumes nothing.
-use mathlib.Core.Path.{◌≡◌, refl, sym, ap, ◌∙◌, subst}
+use mathlib.Core.Path.{◌≡◌, refl, sym, ap, ◌∙◌}
 use mathlib.Core.Bool.{Bool, true, false, cond, ◌&&◌, true≢false}
 use mathlib.Core.Logic.{◌≢◌}
 use mathlib.Core.List.{List, []}

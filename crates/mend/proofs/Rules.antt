@@ -2,7 +2,7 @@
 -- listed with its report's line. Assumes nothing.
 use mathlib.Core.Path.{◌≡◌, refl, sym, ap, ◌∙◌}
 use mathlib.Core.Logic.{◌≢◌}
-use mathlib.Core.Bool.{Bool, true, false, cond, ◌&&◌, true≢false}
+use mathlib.Core.Bool.{Bool, true, false, cond, ◌&&◌}
 use mathlib.Core.List.{List, [], ◌∷◌}
 use Prim.Native.Nat.{ℕ, ◌<◌}
 use native.Mathlib.Omega.{arith}
@@ -13,7 +13,7 @@ use Rattle.layout.specs.Arrays.{stripe_refusal}
 use Rattle.layout.specs.declared.Array.{Array}
 use Rattle.format.specs.Formats.{guard}
 use Rattle.tag.specs.Blocks.{format_at}
-use Rattle.tag.specs.Tags.{standing_at, is_bad, good, bad, unchecked}
+use Rattle.tag.specs.Tags.{standing_at, is_bad, good, bad}
 use Rattle.verdict.specs.Verdicts as verdicts
 use Rattle.stripe.specs.Tables.{table}
 use Rattle.stripe.specs.Stripes.{stripe_length, block_of, others_data, guards_fit}

@@ -1,5 +1,7 @@
 // A stripe of an image that is to be mended: rebuilt where that can be done, left as it is where it cannot, and listed where somebody has to
 // look at it.
+#![tactic(auto)]
+
 ghost use Rattle.std.specs.Prelude.{◌≡◌, length};
 ghost use Rattle.verdict.specs.Verdicts.{verdict_numbers};
 ghost use Rattle.stripe.specs.Jobs.{rebuild_bytes};

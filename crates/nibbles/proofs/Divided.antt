@@ -1,6 +1,6 @@
 -- A word divided without a table: every step goes through exclusive-or, so that the 64 single bits, computed, speak for all words.
 -- Assumes nothing.
-use mathlib.Core.Path.{◌≡◌, refl, ap, ◌∙◌}
+use mathlib.Core.Path.{◌≡◌, refl}
 use Prim.Native.Nat.{ℕ, ◌%◌, ◌^◌, ◌<◌}
 use lib.Bits.{bit_xor}
 use Rattle.crc.specs.Crc.{feed, bits, bit_step}

@@ -1,5 +1,7 @@
 // The end of a division: what a word leaves. Once, four bits at a time by ten tables of sixteen entries: they are lent, so that a caller makes
 // them once, and what is promised holds of any. Once without a table, which is more to compute but goes for many words side by side.
+#![tactic(auto)]
+
 ghost use Rattle.std.specs.Prelude.{◌≡◌};
 ghost use Rattle.words.specs.Words.{rest, act};
 ghost use Rattle.nibbles.specs.Nibbles.{nearer, nibbles, looked};

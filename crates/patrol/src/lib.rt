@@ -1,5 +1,7 @@
 // The patrol: at each idle turn it scrubs the next stripe of an array, round and round; at a busy turn it rests. A stripe may also be asked for out
 // of turn. A call decides first, by its refusal number; a call that is refused hands the state back as it came.
+#![tactic(auto)]
+
 ghost use Rattle.std.specs.Prelude.{◌≡◌, ◌<◌, length};
 ghost use Rattle.layout.specs.Arrays.{array_refusal};
 ghost use Rattle.stripe.specs.Verdicts.{scrub_refusal};

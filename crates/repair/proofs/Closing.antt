@@ -15,7 +15,7 @@ use Rattle.lines.specs.Lines.{line_room}
 use Rattle.lines.specs.Headers.{header_size, array_in, header_refusal}
 use Rattle.lines.proofs.Headers.{short_refused}
 use Rattle.repair.specs.declared.Repair.{Repair}
-use Rattle.repair.specs.Repairs.{Output, refused_with, not_repaired, repair_refusal, ending, repair_stripes, repair_of}
+use Rattle.repair.specs.Repairs.{refused_with, not_repaired, repair_refusal, ending, repair_stripes, repair_of}
 use Rattle.repair.specs.Feeding.{closing}
 use Rattle.repair.proofs.Stages.{Stage, in_header, in_stripe, behind, ended, to_write, Stands}
 use Rattle.repair.proofs.Leading.{one_left}

@@ -8,7 +8,7 @@ use Rattle.tag.specs.Numbers.{number_of}
 use Rattle.lines.specs.Text.{decimal, refused_word}
 use Rattle.lines.specs.Lines.{refused_line}
 use Rattle.lines.specs.Headers.{form_of, form_size, later, array_in, header_refusal}
-use Rattle.repair.specs.Repairs.{Output, refused_with, repair_refusal, ending, repair_stripes, repair_of}
+use Rattle.repair.specs.Repairs.{refused_with, repair_refusal, ending, repair_stripes, repair_of}
 
 -- "REFUSED ", two digits, and the end of the line
 abbrev pub told : ℕ → ℕ → List ℕ

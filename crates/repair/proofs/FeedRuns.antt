@@ -20,7 +20,7 @@ use Rattle.repair.specs.Feeding.{Step, Does, holding, entering, over, size_now, 
 use Rattle.repair.specs.Feeds.{step_then, feed_steps, feed_of}
 use Rattle.repair.proofs.Within.{Within, step_within}
 use Rattle.repair.proofs.Stages.{Stage, to_write, Stands, output_of}
-use Rattle.repair.proofs.Stepping.{Steps, step_leads}
+use Rattle.repair.proofs.Stepping.{step_leads}
 
 -- ---- a step, or steps, from a place: where they lead, and what they write
 

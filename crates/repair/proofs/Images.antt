@@ -1,28 +1,24 @@
 -- What a repair leaves of a whole image, stripe by stripe, and that a second one finds nothing to do. Assumes nothing.
-use mathlib.Core.Path.{◌≡◌, refl, sym, ap, ap₂, ◌∙◌, subst}
-use mathlib.Core.Logic.{◌≢◌}
-use mathlib.Core.Bool.{Bool, true, false, not, cond}
+use mathlib.Core.Path.{◌≡◌, refl, sym, ap, ap₂, ◌∙◌}
 use mathlib.Core.List.{List, [], ◌∷◌, ◌++◌}
-use Prim.Native.Nat.{ℕ, zero, suc, ◌+◌, ◌-◌, ◌*◌, ◌≤◌, ◌<◌, min}
+use Prim.Native.Nat.{ℕ, zero, suc, ◌+◌, ◌*◌, ◌≤◌, ◌<◌}
 use native.Mathlib.Nat.{zero-add, add-zero, mul-zero, mul-suc, add_comm, mul-le-mul_left}
-use native.Mathlib.Decide.{dec_lt, ℕ_discrete}
+use native.Mathlib.Decide.{dec_lt}
 use native.Mathlib.Omega.{arith}
-use borrow.Author.Tests.{le-ltb, eqb-true, eqb-false, eq-eqb}
-use lib.Dec.{ltb, eqb}
+use borrow.Author.Tests.{le-ltb}
 use lib.ListN.{length, get_or, take, drop, length-append, length-take, length-drop, take-append-drop}
 use lib.Seq.{take_at, drop_at, drop-append-add, drop-drop, length-take-le}
-use Rattle.layout.specs.Answers.{refuse, after}
 use Rattle.layout.specs.declared.Array.{Array}
 use Rattle.tag.specs.Blocks.{format_at}
 use Rattle.stripe.specs.Tables.{span, part}
 use Rattle.stripe.specs.Stripes.{stripe_length, block_of}
-use Rattle.stripe.specs.Verdicts.{scrub_numbers, clean}
-use Rattle.lines.specs.Headers.{header_size, array_in, header_refusal}
+use Rattle.stripe.specs.Verdicts.{scrub_numbers}
+use Rattle.lines.specs.Headers.{header_size, array_in}
 use Rattle.lines.proofs.Headers.{size-told, size_least, short_refused}
-use Rattle.mend.specs.Mending.{verdict_on, bad_member, mended, listed, is_rebuilt}
+use Rattle.mend.specs.Mending.{verdict_on, mended, listed, is_rebuilt}
 use Rattle.mend.proofs.Rebuilding.{length-mended}
-use Rattle.mend.proofs.Once.{kept-unless-rebuilt, rebuilt-clean, rebuilt-beside, Once, mended-once}
-use Rattle.repair.specs.Repairs.{Output, nothing, and_then, repair_refusal, ending, repair_stripes, header_of, array_of, stripes_of, repair_of, image_refusal, stripe_at}
+use Rattle.mend.proofs.Once.{kept-unless-rebuilt, rebuilt-clean, rebuilt-beside, mended-once}
+use Rattle.repair.specs.Repairs.{Output, and_then, repair_refusal, ending, repair_stripes, header_of, array_of, stripes_of, repair_of, stripe_at}
 use Rattle.repair.specs.SecondPass.{SecondPass}
 use Rattle.repair.proofs.Refusals.{report_accepts}
 

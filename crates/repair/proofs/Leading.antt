@@ -1,13 +1,13 @@
 -- Bytes of the header, and of a stripe: with the last of them it goes on to the image, mended if it is a stripe. Assumes nothing.
-use mathlib.Core.Path.{◌≡◌, refl, sym, ap, ap₂, ◌∙◌}
+use mathlib.Core.Path.{◌≡◌, refl, ap, ap₂, ◌∙◌}
 use mathlib.Core.Bool.{Bool, true, false, cond}
 use mathlib.Core.List.{List, [], ◌++◌, append_assoc, append-nil}
-use Prim.Native.Nat.{ℕ, suc, ◌+◌, ◌-◌, ◌*◌, ◌≤◌, ◌<◌, zero-le}
+use Prim.Native.Nat.{ℕ, suc, ◌+◌, ◌-◌, ◌≤◌, ◌<◌}
 use native.Mathlib.Nat.{sub-zero}
 use native.Mathlib.Omega.{arith}
 use borrow.Author.Tests.{ltb-true, ltb-false, le-ltb, eqb-true, eq-eqb, ne_eqb}
 use lib.Dec.{ltb, eqb}
-use lib.ListN.{length, get_or, take, drop, length-append}
+use lib.ListN.{length, take, drop, length-append}
 use lib.Seq.{sets, sets-eq, take_at, drop_at}
 use Rattle.layout.specs.Arrays.{stripe_refusal}
 use Rattle.layout.specs.declared.Array.{Array}
@@ -21,11 +21,11 @@ use Rattle.lines.specs.Lines.{refused_line}
 use Rattle.lines.proofs.Headers.{size_stays, header_sound}
 use Rattle.mend.specs.Mending.{mended, listed}
 use Rattle.repair.specs.declared.Repair.{Repair}
-use Rattle.repair.specs.Repairs.{Output, refused_with, and_then, repair_refusal, repair_stripes, repair_of}
-use Rattle.repair.specs.Feeding.{Step, holding, entering, over, next_stripe, size_now, header_whole, stripe_whole, whole, came, took}
+use Rattle.repair.specs.Repairs.{refused_with, and_then, repair_refusal, repair_stripes, repair_of}
+use Rattle.repair.specs.Feeding.{Step, holding, entering, over, size_now, header_whole, stripe_whole, whole, came, took}
 use Rattle.repair.proofs.Refusals.{report_accepts}
 use Rattle.repair.proofs.Ranges.{header-size_now, stripe-size_now}
-use Rattle.repair.proofs.Stages.{Stage, in_header, in_stripe, behind, ended, to_write, StandsInHeader, StandsInStripe, Leads}
+use Rattle.repair.proofs.Stages.{in_header, in_stripe, behind, ended, StandsInHeader, StandsInStripe, Leads}
 
 -- bytes stored behind those that a buffer already holds
 pub stored : (l h x : List ℕ) → take (length h) l ≡ h → length h + length x ≤ length l → take (length (h ++ x)) (sets l (length h) x) ≡ h ++ x

@@ -1,7 +1,7 @@
 -- The theorems on the code's own promises. What a caller learns from the `ensures` of `new`, `feed` and `close`, which the check writes into each
 -- function's `Reads`, is a step of a `RepairRun`, or begins one. So what is said of every run is said of the calls: with an `ensures` weakened, these
 -- laws are refused. `a` are the arguments, `r` the result, `e` the lent buffers at the end. Assumes nothing.
-use mathlib.Core.Path.{◌≡◌, sym, ap, ◌∙◌, subst}
+use mathlib.Core.Path.{◌≡◌, sym, ◌∙◌, subst}
 use mathlib.Core.Logic.{◌≢◌}
 use mathlib.Core.List.{List, [], ◌++◌}
 use Prim.Native.Nat.{ℕ, ◌≤◌, ◌<◌}

@@ -3,11 +3,11 @@ use mathlib.Core.Path.{◌≡◌, refl, sym, ap, ◌∙◌}
 use mathlib.Core.Bool.{Bool, true, false, cond}
 use mathlib.Core.Logic.{◌≢◌}
 use mathlib.Core.List.{List}
-use Prim.Native.Nat.{ℕ, ◌+◌, ◌*◌, ◌≤◌, ◌<◌}
+use Prim.Native.Nat.{ℕ, ◌+◌, ◌≤◌, ◌<◌}
 use native.Mathlib.Omega.{arith}
 use borrow.Author.Tests.{eqb-true, eqb-false, eq-eqb, ne_eqb, leb-true, le-leb}
 use lib.Dec.{eqb, leb}
-use lib.ListN.{length, get_or, take}
+use lib.ListN.{get_or, take}
 use Rattle.layout.specs.Arrays.{stripe_refusal}
 use Rattle.layout.specs.declared.Array.{Array}
 use Rattle.layout.proofs.Ranges.{stripe_sound}
@@ -18,7 +18,7 @@ use Rattle.stripe.specs.Stripes.{stripe_length}
 use Rattle.lines.specs.Headers.{header_room, header_size}
 use Rattle.lines.proofs.Headers.{size-most}
 use Rattle.repair.specs.declared.Repair.{Repair}
-use Rattle.repair.specs.Feeding.{header_stage, stripes_stage, holding, size_now, in_range}
+use Rattle.repair.specs.Feeding.{holding, size_now, in_range}
 
 -- ---- the size
 

@@ -1,13 +1,13 @@
 -- An image that is not refused is whole; where one is refused, its number ends the list. Assumes nothing.
 use mathlib.Core.Path.{◌≡◌, refl, sym, ap, ◌∙◌}
 use mathlib.Core.Logic.{◌≢◌}
-use mathlib.Core.Bool.{Bool, true, false, not, cond}
+use mathlib.Core.Bool.{Bool, true, false, not}
 use mathlib.Core.List.{List, [], ◌∷◌, ◌++◌, append_assoc}
 use Prim.Native.Nat.{ℕ, zero, suc, ◌+◌, ◌-◌, ◌*◌, ◌≤◌, ◌<◌}
 use native.Mathlib.Nat.{mul-zero, mul-suc}
-use native.Mathlib.Decide.{dec_lt, dec_le, ℕ_discrete}
+use native.Mathlib.Decide.{dec_lt, ℕ_discrete}
 use native.Mathlib.Omega.{arith}
-use borrow.Author.Tests.{lt-ltb, eqb-true, eqb-false, eq-eqb, ne_eqb}
+use borrow.Author.Tests.{lt-ltb, eqb-true, eq-eqb, ne_eqb}
 use lib.Dec.{eqb}
 use lib.ListN.{length, get_or, take, drop, length-take, length-drop, get_or-eq_default}
 use lib.Seq.{get_or-take}
@@ -17,10 +17,10 @@ use Rattle.stripe.specs.Stripes.{stripe_length}
 use Rattle.lines.specs.Lines.{refused_line}
 use Rattle.lines.specs.Headers.{header_size}
 use Rattle.lines.proofs.Headers.{volume_there}
-use Rattle.mend.specs.Mending.{mended, listed}
+use Rattle.mend.specs.Mending.{listed}
 use Rattle.repair.specs.Repairs.{Output, repair_refusal, ending, repair_stripes, header_of, array_of, stripes_of, repair_of, image_refusal}
 use Rattle.repair.specs.SecondPass.{SecondPass, Ends}
-use Rattle.repair.proofs.Images.{one-stripe, repair_is, second_pass}
+use Rattle.repair.proofs.Images.{one-stripe, second_pass}
 
 module _ (image : List ℕ) where
   abbrev number : ℕ

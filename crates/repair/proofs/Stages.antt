@@ -1,8 +1,8 @@
 -- Where a repair stands, by the bytes that have come, and what it has yet to write: a function of that place and of the bytes to come.
 -- Assumes nothing.
 use mathlib.Core.Path.{◌≡◌}
-use mathlib.Core.List.{List, [], ◌++◌}
-use Prim.Native.Nat.{ℕ, ◌-◌, ◌≤◌, ◌<◌}
+use mathlib.Core.List.{List, ◌++◌}
+use Prim.Native.Nat.{ℕ, ◌-◌, ◌<◌}
 use lib.ListN.{length, take}
 use Rattle.layout.specs.Arrays.{stripe_refusal}
 use Rattle.layout.specs.declared.Array.{Array}

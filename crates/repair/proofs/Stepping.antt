@@ -2,13 +2,11 @@
 -- Assumes nothing.
 use mathlib.Core.Path.{◌≡◌, refl, sym, ap, ◌∙◌}
 use mathlib.Core.Logic.{◌≢◌}
-use mathlib.Core.Bool.{Bool, true, false, cond}
 use mathlib.Core.List.{List, [], ◌∷◌, ◌++◌, append-nil}
-use Prim.Native.Nat.{ℕ, zero, suc, ◌+◌, ◌-◌, ◌≤◌, ◌<◌, zero-le}
+use Prim.Native.Nat.{ℕ, zero, suc, ◌+◌, ◌-◌, ◌≤◌, ◌<◌}
 use native.Mathlib.Decide.{dec_lt, ℕ_discrete}
 use native.Mathlib.Omega.{arith}
 use borrow.Author.Tests.{eq-eqb, ne_eqb}
-use lib.Dec.{eqb}
 use lib.ListN.{length, get_or, take, length-take}
 use lib.Seq.{take-length}
 use Rattle.format.specs.Formats.{most_stripe}
@@ -17,8 +15,8 @@ use Rattle.lines.specs.Lines.{line_room, refused_line}
 use Rattle.lines.specs.Headers.{header_size}
 use Rattle.lines.proofs.Headers.{size-most}
 use Rattle.repair.specs.declared.Repair.{Repair}
-use Rattle.repair.specs.Repairs.{Output, refused_with, and_then, ending}
-use Rattle.repair.specs.Feeding.{Step, over, size_now, took, passed, idle, step_of}
+use Rattle.repair.specs.Repairs.{refused_with, and_then, ending}
+use Rattle.repair.specs.Feeding.{Step, size_now, took, passed, idle, step_of}
 use Rattle.repair.proofs.Doing.{without_input, without_line, passing, held_too_short, image_too_short, taking}
 use Rattle.repair.proofs.Ranges.{header-size_now, no_size_now, stripe_bounded}
 use Rattle.repair.proofs.Stages.{Stage, in_header, in_stripe, behind, ended, to_write, Stands, output_of, Leads}

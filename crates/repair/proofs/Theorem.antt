@@ -2,7 +2,7 @@
 -- The invariant: what is yet to be written, by where the repair stands, is what the calls to come write.
 -- That the calls promise the steps of a run is proved in Promised.antt, from their own `ensures`.
 -- Assumes nothing.
-use mathlib.Core.Path.{◌≡◌, sym, ap, ap₂, refl, ◌∙◌, subst}
+use mathlib.Core.Path.{◌≡◌, sym, ap, ap₂, refl, ◌∙◌}
 use mathlib.Core.List.{List, [], ◌∷◌, ◌++◌}
 use Prim.Native.Nat.{ℕ, zero, suc, ◌+◌, ◌-◌, ◌≤◌, ◌<◌}
 use native.Mathlib.Nat.{zero-lt-suc}

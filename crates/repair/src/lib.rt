@@ -1,5 +1,7 @@
 // The repair of an image that comes in pieces. The header, and then each stripe, is held in a lent buffer until it is whole; then it goes on to
 // the image that is written, mended if it is a stripe, and the list gets a line for whatever somebody has to look at.
+#![tactic(auto)]
+
 mod feeding;
 mod header;
 mod steps;

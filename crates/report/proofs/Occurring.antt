@@ -1,12 +1,12 @@
 -- Every list of pieces has a run, from wherever a report stands: the fills that use up each piece in turn, and a close, write `fed_text`.
 -- So what is said of runs is said of every cut of an image.
 -- Assumes nothing.
-use mathlib.Core.Path.{◌≡◌, refl, subst}
+use mathlib.Core.Path.{refl, subst}
 use mathlib.Core.List.{List, [], ◌∷◌, ◌++◌}
 use Prim.Native.Nat.{ℕ, zero, suc, ◌-◌, ◌≤◌, ◌<◌}
 use native.Mathlib.Nat.{zero-lt-suc}
 use native.Mathlib.Omega.{arith}
-use lib.ListN.{length, take, drop, length-drop}
+use lib.ListN.{length, drop, length-drop}
 use lib.Seq.{take_all}
 use Rattle.stripe.specs.Tables.{joined}
 use Rattle.lines.specs.Lines.{line_room}

@@ -1,4 +1,6 @@
 // The report of an image that comes in pieces: what is held between the calls, and the steps within a stripe.
+#![tactic(auto)]
+
 mod feeding;
 mod fills;
 mod lending;

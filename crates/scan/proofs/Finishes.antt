@@ -7,13 +7,13 @@ use mathlib.Core.List.{List, [], ◌∷◌, map}
 use Prim.Native.Nat.{ℕ, zero, suc, ◌*◌, ◌≤◌, ◌<◌}
 use native.Mathlib.Nat.{le_of_suc-le-suc, not-suc-le-zero}
 use native.Mathlib.Omega.{arith}
-use lib.Dec.{leb, ltb, eqb}
-use borrow.Author.Tests.{leb-true, leb-false, le-leb, lt-ltb, eq-eqb, ne_eqb}
+use lib.Dec.{leb, eqb}
+use borrow.Author.Tests.{leb-true, leb-false, le-leb, eq-eqb, ne_eqb}
 use lib.ListN.{length, get_or, take, drop, length-take, length-drop}
 use lib.Seq.{get_or-take, get_or-drop, ext_get_or}
 use Rattle.stripe.specs.Tables.{table, all, span}
 use Rattle.format.specs.Formats.{Format, guard}
-use Rattle.tag.specs.Blocks.{data_of, tag_of}
+use Rattle.tag.specs.Blocks.{tag_of}
 use Rattle.stripe.specs.Formats.{register_of, summary_of}
 use Rattle.scan.specs.Scans.{held_summary}
 use Rattle.scan.specs.Holding.{Held, Follows}

@@ -1,4 +1,5 @@
 // The scrub of a stripe that comes in pieces.
+#![tactic(auto)]
 
 mod finishing;
 mod starting;

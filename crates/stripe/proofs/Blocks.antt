@@ -3,13 +3,12 @@
 use mathlib.Core.Path.{◌≡◌, refl, sym, ap, ap₂, ◌∙◌}
 use mathlib.Core.Logic.{◌≢◌}
 use mathlib.Core.List.{List, [], ◌∷◌, ◌++◌}
-use Prim.Native.Nat.{ℕ, zero, suc, ◌+◌, ◌-◌, ◌*◌, ◌≤◌, ◌<◌}
+use Prim.Native.Nat.{ℕ, zero, suc, ◌+◌, ◌*◌, ◌≤◌, ◌<◌}
 use native.Mathlib.Nat.{zero-add, suc-add, add_comm, mul-zero, mul-suc, le_of_suc-le-suc, not-suc-le-zero, zero-lt-suc}
 use native.Mathlib.Decide.{dec_lt}
 use native.Mathlib.Omega.{arith}
-use lib.ListN.{length, get_or, take, drop, set, length-append, length-take, length-drop, take-append-drop}
+use lib.ListN.{length, take, drop, set, length-append, length-take, length-drop, take-append-drop}
 use lib.Seq.{take-nil, sets, sets-eq, set_comm, take-set-le, drop-set-lt, take_at, drop_at, drop-append-add, drop-append-le, drop-drop}
-use Rattle.format.specs.Formats.{guard}
 use Rattle.layout.specs.Places.{owner_refusal}
 use Rattle.layout.specs.declared.Array.{Array}
 use Rattle.format.specs.Formats.{Format}
@@ -22,7 +21,7 @@ use Rattle.stripe.specs.Tables.{table, joined, span}
 use Rattle.stripe.specs.Stripes.{block_of}
 use Rattle.stripe.specs.Jobs.{with_block}
 use Rattle.copy.proofs.Puts.{sets-append}
-use Rattle.stripe.proofs.Tables.{length-table, get_or-table, table_ext}
+use Rattle.stripe.proofs.Tables.{table_ext}
 
 pub drop-take : (from size : ℕ) (l : List ℕ) → drop from (take (from + size) l) ≡ take size (drop from l)
 drop-take zero size l = rw zero-add

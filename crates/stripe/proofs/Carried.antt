@@ -1,14 +1,14 @@
 -- The guards in the tags of a stripe, combined: of all members and of all but one; and what follows where they combine to zero.
 -- Assumes nothing.
 use mathlib.Core.Path.{◌≡◌, refl, sym, ap, ap₂, ◌∙◌}
-use mathlib.Core.Bool.{Bool, true, false, not, cond, ◌||◌}
-use mathlib.Core.List.{List, [], ◌∷◌, ◌++◌}
+use mathlib.Core.Bool.{Bool, true, false, not, ◌||◌}
+use mathlib.Core.List.{List, [], ◌∷◌}
 use mathlib.Core.Logic.{◌≢◌}
-use Prim.Native.Nat.{ℕ, zero, suc, ◌+◌, ◌*◌, ◌^◌, ◌≤◌, ◌<◌}
+use Prim.Native.Nat.{ℕ, zero, suc, ◌+◌, ◌^◌, ◌≤◌, ◌<◌}
 use native.Mathlib.Nat.{zero-lt-suc, le_of_suc-le-suc, not-suc-le-zero, one-le-pow}
 use native.Mathlib.Decide.{ℕ_discrete}
 use native.Mathlib.Omega.{arith}
-use borrow.Author.Tests.{eqb-true, eq-eqb, ne_eqb}
+use borrow.Author.Tests.{eq-eqb, ne_eqb}
 use lib.Bits.{bit_xor, xor_comm, xor_self, xor_zero_l, xor_zero_r}
 use lib.Dec.{eqb, lit<}
 use native.Mathlib.Numerals.{add-one}
@@ -24,9 +24,9 @@ use Rattle.tag.specs.Tags.{carried, good}
 use Rattle.tag.proofs.Guards.{own_data}
 use Rattle.tag.proofs.Cases.{good-guard}
 use Rattle.verdict.specs.Verdicts.{combined_guards}
-use Rattle.stripe.specs.Tables.{table, others}
+use Rattle.stripe.specs.Tables.{others}
 use Rattle.stripe.specs.Stripes.{block_of, stored_guard, stored_guards, others_guards, left_of, others_good, guards_fit}
-use Rattle.stripe.proofs.Tables.{length-table, get_or-table, table_ext}
+use Rattle.stripe.proofs.Tables.{length-table, get_or-table}
 use Rattle.stripe.proofs.Others.{others_are_good}
 
 -- ---- numbers combined

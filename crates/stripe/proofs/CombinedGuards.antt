@@ -20,7 +20,7 @@ use Rattle.tag.specs.Tags.{good}
 use Rattle.tag.proofs.Guards.{own_plain}
 use Rattle.tag.proofs.Cases.{good-guard}
 use Rattle.tag.proofs.Tagged.{length_data}
-use Rattle.verdict.specs.Verdicts.{says_clean, combined_guards, quick_numbers}
+use Rattle.verdict.specs.Verdicts.{says_clean, combined_guards}
 use Rattle.verdict.proofs.Quick.{sound_quick, compared_fits}
 use Rattle.stripe.specs.Tables.{table}
 use Rattle.stripe.specs.Stripes.{block_of, member_data, stored_guard, stored_guards, Parity, Settled}

@@ -19,7 +19,6 @@ use Rattle.layout.proofs.Bijection.{place-refusal}
 use Rattle.layout.proofs.Ranges.{place_sound}
 use Rattle.format.specs.Formats.{settled}
 use Rattle.tag.specs.Blocks.{format_at}
-use Rattle.tag.specs.Tags.{good}
 use Rattle.verdict.specs.Verdicts.{says_clean, combined_guards, quick_refusal}
 use Rattle.verdict.proofs.Quick.{sound_quick, compared_fits, compared_differs}
 use Rattle.stripe.specs.Stripes.{stripe_length, block_of, stored_guard, stored_guards}

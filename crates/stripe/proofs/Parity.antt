@@ -9,8 +9,8 @@ use native.Mathlib.Omega.{arith}
 use lib.ListN.{length, get_or, set, replicate, length-set}
 use lib.Seq.{ext_get_or, get_or-set_same, get_or-set_other}
 use Rattle.xor.specs.Xors.{xors, add_all, combination}
-use Rattle.xor.proofs.Lists.{xors-nil, xors-twice, xors_eq, xors_self, length-xors}
-use Rattle.xor.proofs.Combination.{add_all-set, length-combination}
+use Rattle.xor.proofs.Lists.{xors-nil, xors-twice, xors_eq, xors_self}
+use Rattle.xor.proofs.Combination.{add_all-set}
 use Rattle.format.specs.Formats.{Format}
 use Rattle.format.proofs.Sizes.{times-next}
 use Rattle.tag.specs.Blocks.{data_of}

@@ -12,8 +12,8 @@ use lib.Bits.{bit_xor, xor_comm}
 use Rattle.xor.proofs.Bits.{xor-twice, xor_undo}
 use lib.Dec.{lit<}
 use lib.ListN.{length, get_or, replicate, length-map, length-replicate}
-use Rattle.xor.specs.Xors.{xors, add_all, combination}
-use Rattle.xor.proofs.Lists.{length-xors, xors_self}
+use Rattle.xor.specs.Xors.{combination}
+use Rattle.xor.proofs.Lists.{xors_self}
 use Rattle.xor.proofs.Combination.{length-combination, bytes-add_all}
 use Rattle.crc.specs.Crc.{bits_of, Bytes, Within}
 use Rattle.format.specs.Formats.{Format, guard, blank, spare, settled}

@@ -3,8 +3,8 @@
 use mathlib.Core.Path.{◌≡◌, refl, sym, ap, ap₂, ◌∙◌}
 use mathlib.Core.Logic.{◌≢◌}
 use mathlib.Core.Bool.{Bool, true, false, not, ◌&&◌}
-use mathlib.Core.List.{List, [], ◌∷◌}
-use Prim.Native.Nat.{ℕ, zero, suc, ◌+◌, ◌-◌, ◌*◌, ◌≤◌}
+use mathlib.Core.List.{List}
+use Prim.Native.Nat.{ℕ, ◌+◌, ◌*◌, ◌≤◌}
 use native.Mathlib.Omega.{arith}
 use borrow.Author.Tests.{eq-eqb, ne_eqb, eqb-true}
 use lib.Bits.{bit_xor}
@@ -14,8 +14,7 @@ use lib.Seq.{sets}
 use Rattle.xor.specs.Xors.{xors}
 use Rattle.xor.proofs.Lists.{length-xors}
 use Rattle.layout.specs.Answers.{refuse}
-use Rattle.layout.specs.Arrays.{block_refusal}
-use Rattle.layout.specs.Places.{parity_member, place_numbers, owner_refusal}
+use Rattle.layout.specs.Places.{parity_member, owner_refusal}
 use Rattle.layout.specs.declared.Array.{Array}
 use Rattle.layout.proofs.Answers.{refuse-none}
 use Rattle.layout.proofs.Ranges.{place_sound, sound_place}
@@ -30,11 +29,10 @@ use Rattle.tag.proofs.Cases.{good-guard}
 use Rattle.tag.proofs.Guards.{own_data, own_plain, carried-parity, guard-own, guard-carried}
 use Rattle.tag.proofs.Tagged.{length_data, length-tagged, tagged_by_lem}
 use Rattle.stripe.specs.Stripes.{stripe_length, block_of, stored_guard}
-use Rattle.stripe.specs.Jobs.{unless_refused, with_block, stored_good, guards_agree, replace_refusal, replaced, update_refusal, update_bytes}
+use Rattle.stripe.specs.Jobs.{unless_refused, with_block, stored_good, guards_agree, replace_refusal, replaced}
 use Rattle.stripe.specs.Accepted.{Replaceable}
 use Rattle.stripe.proofs.Rows.{length-span}
 use Rattle.stripe.proofs.Blocks.{data_then_tag, blocks_swap}
-use Rattle.stripe.proofs.Served.{refused_by_place, PlacedAt}
 
 -- the parity's place is one of the array where any member's is
 pub parity_sound : (a : Array) (stripe member : ℕ) → owner_refusal a stripe member ≡ 0 → owner_refusal a stripe (parity_member a stripe) ≡ 0

@@ -1,4 +1,6 @@
 // The jobs on a whole stripe in memory, over the few steps that they share.
+#![tactic(auto)]
+
 mod rebuilding;
 mod scrubbing;
 mod sealing;

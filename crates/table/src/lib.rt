@@ -1,4 +1,6 @@
 // Two bytes at a time through two tables of 256 entries. The tables are lent, so that a caller makes them once; what is promised holds of any two.
+#![tactic(auto)]
+
 mod high;
 mod low;
 

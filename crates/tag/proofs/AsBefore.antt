@@ -9,7 +9,6 @@ use lib.ListN.{get_or}
 use Rattle.format.specs.Formats.{Format}
 use Rattle.tag.specs.Tags.{faults, exempt, standing, kind_of, side_by_side}
 use Rattle.tag.specs.declared.Fields.{Fields}
-use Rattle.tag.proofs.Fits.{faults_by}
 
 -- the definitions as they were
 abbrev fits : Fields → Fields → Bool

@@ -14,7 +14,7 @@ use lib.Dec.{eqb}
 use Rattle.format.specs.Formats.{guard, reference_of}
 use Rattle.format.proofs.Sizes.{scale-some}
 use Rattle.layout.specs.Arrays.{array_of}
-use Rattle.layout.specs.Places.{is_parity, block_named}
+use Rattle.layout.specs.Places.{is_parity}
 use Rattle.layout.specs.declared.Array.{Array}
 use Rattle.layout.proofs.Volumes.{parity_any_volume, named_any_volume}
 use Rattle.tag.specs.Blocks.{format_at, data_of}

@@ -7,7 +7,7 @@ use Prim.Native.Nat.{ℕ, ◌+◌, ◌*◌, ◌^◌, ◌≤◌, ◌<◌}
 use native.Mathlib.Nat.{add-mul, lt_of_lt_of_le}
 use native.Mathlib.Omega.{arith}
 use Rattle.format.proofs.Sizes.{scale-some}
-use Rattle.format.proofs.References.{reference_injective, four-told, eight_told}
+use Rattle.format.proofs.References.{reference_injective, eight_told}
 use Rattle.layout.specs.Arrays.{block_count}
 use Rattle.layout.specs.Places.{is_parity, block_named, owner_refusal}
 use Rattle.layout.specs.Ranges.{Sound}

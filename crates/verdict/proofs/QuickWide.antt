@@ -1,11 +1,10 @@
 -- The quick scrub of guards of thirty-two bits: what is due by their number, its answer, and that the guards of blocks that combine to zeros
 -- fit. Assumes nothing.
-use mathlib.Core.Path.{◌≡◌, refl, sym, ap, ap₂, ◌∙◌}
+use mathlib.Core.Path.{◌≡◌, refl, sym, ap, ◌∙◌}
 use mathlib.Core.List.{List, [], ◌∷◌, map}
 use mathlib.Core.Logic.{◌≢◌}
 use Prim.Native.Nat.{ℕ, ◌*◌, ◌%◌, ◌≤◌}
 use native.Mathlib.Nat.{mul-zero, mul-one}
-use native.Mathlib.Omega.{arith}
 use lib.Bits.{bit_xor}
 use lib.ListN.{length, replicate, length-map}
 use Rattle.xor.specs.Xors.{combination}

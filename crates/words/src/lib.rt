@@ -1,4 +1,6 @@
 // Words of 64 bits modulo the generator: each step moves one on by a fixed number of bits with a few shifts, and adds another.
+#![tactic(auto)]
+
 ghost use Rattle.std.specs.Prelude.{◌≡◌};
 ghost use Rattle.words.specs.Words.{rest, after, act};
 ghost use Rattle.words.specs.Steps.{turning, quad};

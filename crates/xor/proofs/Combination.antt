@@ -1,12 +1,12 @@
 -- Laws of `add_all` and `combination`: many runs added one after the other.
 -- Assumes nothing.
-use mathlib.Core.Path.{◌≡◌, refl, sym, ap, ap₂, ◌∙◌}
+use mathlib.Core.Path.{◌≡◌, refl, sym, ap, ◌∙◌}
 use mathlib.Core.List.{List, [], ◌∷◌, ◌++◌}
-use Prim.Native.Nat.{ℕ, zero, suc, ◌+◌, ◌≤◌, ◌<◌}
+use Prim.Native.Nat.{ℕ, zero, suc, ◌<◌}
 use native.Mathlib.Nat.{not-suc-le-zero, le_of_suc-le-suc}
-use lib.ListN.{length, get_or, take, drop, set, replicate, length-replicate}
+use lib.ListN.{length, get_or, set, replicate, length-replicate}
 use Rattle.xor.specs.Xors.{xors, add_all, combination}
-use Rattle.xor.proofs.Lists.{length-xors, xors_swap, xors-twice, bytes-xors, zeros-xors}
+use Rattle.xor.proofs.Lists.{length-xors, xors_swap, xors-twice, bytes-xors}
 
 pub length-add_all : (a : List ℕ) (runs : List (List ℕ)) → length (add_all a runs) ≡ length a
 unfolding add_all

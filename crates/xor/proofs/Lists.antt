@@ -11,7 +11,7 @@ use lib.ListN.{length, get_or, take, drop, set, replicate, take-append-drop, dro
 use lib.Seq.{take_all, drop-cons, take-suc-set, drop-set-lt, append_snoc}
 use lib.Bits.{bit_xor, xor_comm, xor_self, xor_zero_r, xor_lt}
 use Rattle.xor.specs.Xors.{xors}
-use Rattle.xor.proofs.Bits.{xor_swap, xor_assoc, xor_eq}
+use Rattle.xor.proofs.Bits.{xor_swap, xor_assoc}
 
 pub length-xors : (a b : List ℕ) → length (xors a b) ≡ length a
 unfolding xors

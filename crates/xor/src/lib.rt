@@ -1,4 +1,6 @@
 // Exclusive-or of byte runs: parity, and every update of it.
+#![tactic(auto)]
+
 ghost use Rattle.std.specs.Prelude.{◌≡◌, min};
 ghost use Rattle.xor.specs.Xors.{xors};
 

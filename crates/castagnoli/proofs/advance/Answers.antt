@@ -6,7 +6,6 @@ use Prim.Native.Nat.{ℕ}
 use native.Mathlib.Omega.{arith}
 use Rattle.castagnoli.specs.Tables.{look_run}
 use Rattle.castagnoli.proofs.Looked.{advance_by_tables}
-use borrow.Author.Rules.{rules}
 use Rattle.castagnoli.proofs.advance.Goals as goal
 
 pub returns : goal.returns

@@ -3,7 +3,6 @@
 use mathlib.Core.Path.{ap}
 use Prim.Native.Nat.{◌/◌}
 use lib.Bits.{bit_xor}
-use borrow.Author.Rules.{rules}
 use Rattle.castagnoli.specs.Tables.{look_one}
 use Rattle.castagnoli.proofs.one.Goals as goal
 

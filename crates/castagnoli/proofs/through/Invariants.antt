@@ -1,12 +1,9 @@
 -- `castagnoli::through` meets its contract. The invariant: the bytes still to come, from the register now, give what all give from the first.
 -- Assumes nothing.
-use mathlib.Core.Path.{◌≡◌, sym, ap, ◌∙◌}
-use Prim.Native.Nat.{ℕ, ◌+◌, ◌-◌, ◌≤◌}
-use native.Mathlib.Omega.{arith}
-use lib.ListN.{length, drop, drop_of_length-le}
+use mathlib.Core.Path.{◌≡◌}
+use Prim.Native.Nat.{◌-◌, ◌≤◌}
+use lib.ListN.{length, drop}
 use Rattle.castagnoli.specs.Tables.{look_run}
-use Rattle.castagnoli.proofs.Looked.{look_turn, look_last, look_none}
-use borrow.Author.Rules.{rules}
 use Rattle.castagnoli.proofs.through.Given as goal
 
 abbrev pub invariant-loop-i : goal.invariant-loop-i

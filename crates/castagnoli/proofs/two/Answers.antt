@@ -3,7 +3,6 @@
 use mathlib.Core.Path.{ap, ap₂}
 use Prim.Native.Nat.{◌/◌}
 use lib.Bits.{bit_xor}
-use borrow.Author.Rules.{rules}
 use Rattle.castagnoli.specs.Tables.{look_two}
 use Rattle.castagnoli.proofs.two.Goals as goal
 

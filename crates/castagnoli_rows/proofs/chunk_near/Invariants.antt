@@ -1,13 +1,11 @@
 -- `castagnoli_rows::chunk_near` meets its contract. The invariants: what is mixed so far, and then what of it is written; the rest of the buffer stays.
 -- Assumes nothing.
-use mathlib.Core.Path.{◌≡◌, refl, ◌∙◌}
+use mathlib.Core.Path.{◌≡◌}
 use mathlib.Core.List.{[], ◌∷◌}
 use Prim.Native.Nat.{ℕ, ◌+◌, ◌-◌, ◌≤◌, ◌<◌}
-use native.Mathlib.Omega.{arith}
-use lib.ListN.{length, get_or, length-set}
+use lib.ListN.{length, get_or}
 use Rattle.castagnoli_rows.specs.Folds.{mix}
-use Rattle.castagnoli_rows.proofs.Puts.{put_first, Written, written_next}
-use borrow.Author.Rules.{rules}
+use Rattle.castagnoli_rows.proofs.Puts.{Written}
 use Rattle.castagnoli_rows.proofs.chunk_near.Given as goal
 
 abbrev pub invariant-loop-j : goal.invariant-loop-j

@@ -1,13 +1,12 @@
 -- `castagnoli_rows::tail_near` meets its contract. The invariant: what is written so far.
 -- Assumes nothing.
-use mathlib.Core.Path.{◌≡◌, ◌∙◌}
+use mathlib.Core.Path.{◌∙◌}
 use mathlib.Core.List.{[], ◌∷◌}
-use Prim.Native.Nat.{ℕ, ◌+◌, ◌-◌, ◌≤◌, ◌<◌}
+use Prim.Native.Nat.{◌+◌}
 use native.Mathlib.Omega.{arith}
-use lib.ListN.{length, get_or, length-set}
+use lib.ListN.{get_or, length-set}
 use Rattle.castagnoli_rows.specs.Folds.{mix}
 use Rattle.castagnoli_rows.proofs.Puts.{put_first}
-use borrow.Author.Rules.{rules}
 use Rattle.castagnoli_rows.proofs.tail_near.Goals as goal
 
 pub loop-j-preserved : goal.loop-j-preserved

@@ -1,12 +1,9 @@
 -- `castagnoli_rows::take_near` meets its contract. The invariant: the bytes taken away so far.
 -- Assumes nothing.
-use mathlib.Core.Path.{◌≡◌, refl, subst}
+use mathlib.Core.Path.{◌≡◌}
 use mathlib.Core.List.{[], ◌∷◌}
-use Prim.Native.Nat.{ℕ, ◌-◌, ◌%◌, ◌≤◌}
-use native.Mathlib.Omega.{arith}
+use Prim.Native.Nat.{◌-◌, ◌%◌, ◌≤◌}
 use Rattle.castagnoli_rows.specs.Folds.{Taken}
-use Rattle.castagnoli_rows.proofs.Chunks.{taken_none, taken_more}
-use borrow.Author.Rules.{rules}
 use Rattle.castagnoli_rows.proofs.take_near.Given as goal
 
 abbrev pub invariant-loop-i : goal.invariant-loop-i

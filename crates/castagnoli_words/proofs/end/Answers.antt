@@ -4,7 +4,6 @@ use mathlib.Core.Path.{ap, ◌∙◌}
 use Prim.Native.Nat.{ℕ, ◌/◌, ◌%◌, ◌^◌}
 use native.Mathlib.Nat.{mod-eq_of_lt}
 use lib.Bits.{bit_xor}
-use borrow.Author.Rules.{rules}
 use Rattle.castagnoli_words.specs.Words.{half}
 use Rattle.castagnoli_words.proofs.Sparse.{rest_lt}
 use Rattle.castagnoli_words.proofs.Ends.{ends}

@@ -3,7 +3,6 @@
 use mathlib.Core.Path.{ap₂, ◌∙◌}
 use Prim.Native.Nat.{ℕ}
 use Rattle.castagnoli_words.specs.Words.{after}
-use borrow.Author.Rules.{rules}
 use Rattle.castagnoli_words.proofs.joined.Goals as goal
 
 pub returns : goal.returns

@@ -6,7 +6,6 @@ use native.Mathlib.Omega.{arith}
 use Rattle.checksum.specs.Weights.{made, reduced}
 use Rattle.checksum.specs.Lanes.{pairs}
 use Rattle.checksum.proofs.Columns.{lanes_sums}
-use borrow.Author.Rules.{rules}
 use Rattle.checksum.proofs.block.Goals as goal
 
 pub returns : goal.returns

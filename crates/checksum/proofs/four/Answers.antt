@@ -2,7 +2,6 @@
 use Prim.Native.Nat.{◌+◌}
 use native.Mathlib.Omega.{arith}
 use Rattle.checksum.proofs.Columns.{four-stack}
-use borrow.Author.Rules.{rules}
 use Rattle.checksum.proofs.four.Goals as goal
 
 pub overflow_cast-result : goal.overflow_cast-result

@@ -1,7 +1,6 @@
 -- `checksum::lane` meets its contract. Assumes nothing.
 use native.Mathlib.Omega.{arith}
 use Rattle.checksum.proofs.Columns.{lane_stack}
-use borrow.Author.Rules.{rules}
 use Rattle.checksum.proofs.lane.Goals as goal
 
 pub returns : goal.returns

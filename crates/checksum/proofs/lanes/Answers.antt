@@ -1,12 +1,8 @@
 -- `checksum::lanes` meets its contract. The invariant: the lanes found, and those still to come, are all. Assumes nothing.
-use mathlib.Core.Path.{◌≡◌, refl, sym, ◌∙◌}
-use mathlib.Core.List.{◌++◌}
-use Prim.Native.Nat.{◌-◌, ◌≤◌}
+use mathlib.Core.Path.{refl, sym, ◌∙◌}
 use native.Mathlib.Omega.{arith}
-use lib.ListN.{length, take, length-set}
-use Rattle.checksum.specs.Lanes.{lanes_of}
+use lib.ListN.{length-set}
 use Rattle.checksum.proofs.Columns.{lanes_turn, lanes_end}
-use borrow.Author.Rules.{rules}
 use Rattle.checksum.proofs.lanes.Goals as goal
 
 pub loop-k-init : goal.loop-k-init

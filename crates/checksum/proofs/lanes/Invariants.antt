@@ -1,12 +1,9 @@
 -- `checksum::lanes` meets its contract. The invariant: the lanes found, and those still to come, are all. Assumes nothing.
-use mathlib.Core.Path.{◌≡◌, refl, sym, ◌∙◌}
+use mathlib.Core.Path.{◌≡◌}
 use mathlib.Core.List.{◌++◌}
 use Prim.Native.Nat.{◌-◌, ◌≤◌}
-use native.Mathlib.Omega.{arith}
-use lib.ListN.{length, take, length-set}
+use lib.ListN.{length, take}
 use Rattle.checksum.specs.Lanes.{lanes_of}
-use Rattle.checksum.proofs.Columns.{lanes_turn, lanes_end}
-use borrow.Author.Rules.{rules}
 use Rattle.checksum.proofs.lanes.Given as goal
 
 abbrev pub invariant-loop-k : goal.invariant-loop-k

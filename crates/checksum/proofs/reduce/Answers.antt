@@ -2,7 +2,6 @@
 use native.Mathlib.Omega.{arith}
 use Rattle.checksum.specs.Checksum.{wrapped}
 use Rattle.checksum.proofs.Reduced.{thrice, thrice_second, thrice_lt}
-use borrow.Author.Rules.{rules}
 use Rattle.checksum.proofs.reduce.Goals as goal
 
 pub overflow_add-result : goal.overflow_add-result

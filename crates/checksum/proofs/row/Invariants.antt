@@ -1,12 +1,9 @@
 -- `checksum::row` meets its contract. The invariant: what is left, from the number now, makes what all makes. Assumes nothing.
-use mathlib.Core.Path.{◌≡◌, refl, sym, ap, ◌∙◌}
-use Prim.Native.Nat.{ℕ, ◌+◌, ◌*◌, ◌-◌, ◌%◌, ◌≤◌}
-use native.Mathlib.Omega.{arith}
-use lib.ListN.{get_or, drop}
-use Rattle.checksum.specs.Lanes.{pair, pairs}
-use Rattle.checksum.specs.Weights.{made, reduced}
-use Rattle.checksum.proofs.Rows.{made-turn, made_none, weight_le, turn-most, row_sums}
-use borrow.Author.Rules.{rules}
+use mathlib.Core.Path.{◌≡◌}
+use Prim.Native.Nat.{◌-◌, ◌%◌, ◌≤◌}
+use lib.ListN.{drop}
+use Rattle.checksum.specs.Lanes.{pairs}
+use Rattle.checksum.specs.Weights.{made}
 use Rattle.checksum.proofs.row.Given as goal
 
 abbrev pub invariant-loop-j : goal.invariant-loop-j

@@ -3,7 +3,6 @@ use mathlib.Core.Path.{sym, ap}
 use native.Mathlib.Omega.{arith}
 use Rattle.checksum.specs.Checksum.{rotated, wrapped, taken}
 use Rattle.checksum.proofs.Words.{word-pair}
-use borrow.Author.Rules.{rules}
 use Rattle.checksum.proofs.take_word.Goals as goal
 
 pub returns : goal.returns

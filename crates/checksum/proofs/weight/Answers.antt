@@ -1,12 +1,12 @@
 -- `checksum::weight` meets its contract. The invariant: what is left, from the number now, makes what all makes. Assumes nothing.
 use mathlib.Core.Path.{◌≡◌, refl, sym, ◌∙◌}
-use Prim.Native.Nat.{ℕ, ◌+◌, ◌*◌, ◌-◌, ◌%◌, ◌≤◌}
+use Prim.Native.Nat.{ℕ, ◌+◌, ◌*◌, ◌≤◌}
 use native.Mathlib.Omega.{arith}
-use lib.ListN.{length, get_or, drop}
+use lib.ListN.{length, get_or}
 use Rattle.checksum.specs.Lanes.{pair, pairs}
 use Rattle.checksum.specs.Weights.{made}
 use Rattle.checksum.proofs.Rows.{made-turn, made_none, weight_le, turn-most}
-use borrow.Author.Rules.{rules, elem_Fits}
+use borrow.Author.Rules.{elem_Fits}
 use mir.Syntax.{w16}
 use Rattle.checksum.proofs.weight.Goals as goal
 

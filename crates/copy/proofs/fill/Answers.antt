@@ -1,13 +1,10 @@
 -- `copy::fill` meets its contract. The invariant: what is left to write, over what is written, is the whole.
 -- Assumes nothing.
-use mathlib.Core.Path.{◌≡◌, refl, sym, ◌∙◌}
-use Prim.Native.Nat.{◌+◌, ◌-◌, ◌≤◌}
+use mathlib.Core.Path.{refl, sym, ◌∙◌}
 use native.Mathlib.Nat.{add-zero}
 use native.Mathlib.Omega.{arith}
-use lib.ListN.{length, drop, length-set}
-use lib.Seq.{sets}
+use lib.ListN.{length-set}
 use Rattle.copy.proofs.Puts.{sets-turn, sets_end}
-use borrow.Author.Rules.{rules}
 use Rattle.copy.proofs.fill.Goals as goal
 
 pub loop-i-init : goal.loop-i-init

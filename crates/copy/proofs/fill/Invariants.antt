@@ -1,13 +1,9 @@
 -- `copy::fill` meets its contract. The invariant: what is left to write, over what is written, is the whole.
 -- Assumes nothing.
-use mathlib.Core.Path.{◌≡◌, refl, sym, ◌∙◌}
-use Prim.Native.Nat.{◌+◌, ◌-◌, ◌≤◌}
-use native.Mathlib.Nat.{add-zero}
-use native.Mathlib.Omega.{arith}
-use lib.ListN.{length, drop, length-set}
+use mathlib.Core.Path.{◌≡◌}
+use Prim.Native.Nat.{◌+◌, ◌-◌}
+use lib.ListN.{length, drop}
 use lib.Seq.{sets}
-use Rattle.copy.proofs.Puts.{sets-turn, sets_end}
-use borrow.Author.Rules.{rules}
 use Rattle.copy.proofs.fill.Given as goal
 
 abbrev pub invariant-loop-i : goal.invariant-loop-i

@@ -1,9 +1,7 @@
 -- `copy::put` meets its contract: where there is room for all by one run, else by the part that fits. Assumes nothing.
 use mathlib.Core.Path.{sym, ap, ◌∙◌}
-use mathlib.Core.List.{List}
 use Prim.Native.Nat.{◌-◌}
 use native.Mathlib.Omega.{arith}
-use borrow.Author.Rules.{rules}
 use lib.ListN.{length}
 use lib.Seq.{sets, take_all}
 use Rattle.copy.proofs.Puts.{sets-past, sets-room}

@@ -1,11 +1,10 @@
 -- `crc::step` meets its contract. The invariant: the bits still to come, from the register now, give what all eight give from the first.
 -- Assumes nothing.
-use mathlib.Core.Path.{◌≡◌, refl, sym, ap, ap₂, ◌∙◌}
-use mathlib.Core.List.{List, [], ◌∷◌, append-nil}
-use Prim.Native.Nat.{ℕ, suc, ◌-◌, ◌/◌, ◌%◌, ◌^◌, ◌≤◌}
+use mathlib.Core.Path.{◌≡◌, sym, ap, ◌∙◌}
+use mathlib.Core.List.{append-nil}
+use Prim.Native.Nat.{ℕ, suc, ◌-◌}
 use native.Mathlib.Omega.{arith}
-use borrow.Author.Rules.{rules}
-use Rattle.crc.specs.Crc.{feed, bits, bits_of, bit_step}
+use Rattle.crc.specs.Crc.{feed, bits, bits_of}
 use Rattle.crc.specs.Guard.{generator, run}
 use Rattle.crc.proofs.step.Goals as goal
 

@@ -6,7 +6,6 @@ use native.Mathlib.Omega.{arith}
 use lib.Bits.{bit_or}
 use Rattle.crc.specs.Crc.{Bytes}
 use Rattle.fold.proofs.Turning.{read_down}
-use borrow.Author.Rules.{rules}
 use Rattle.fold.proofs.word.Goals as goal
 
 up : (k : ℕ) {x y : ℕ} → x ≡ y → x * 2 ^ k % 2 ^ 64 ≡ y * 2 ^ k % 2 ^ 64

@@ -1,6 +1,5 @@
 -- `format::advance` meets its contract. Assumes nothing.
 use mathlib.Core.Path.{sym, ap, ◌∙◌}
-use borrow.Author.Rules.{rules}
 use Rattle.checksum.specs.Machine.{advance as goesOn}
 use Rattle.checksum.specs.declared.Register.{Register}
 use Rattle.format.specs.Formats.{Format}

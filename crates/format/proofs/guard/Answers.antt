@@ -1,6 +1,5 @@
 -- `format::guard` meets its contract. Assumes nothing.
 use mathlib.Core.Path.{sym, ap, ◌∙◌}
-use borrow.Author.Rules.{rules}
 use Rattle.format.specs.Formats.{Format, guard}
 use Rattle.format.proofs.Laws.{of_two, of_three, of_other, guard-t10, guard-checksummed, guard_large}
 use Rattle.format.proofs.guard.Goals as goal

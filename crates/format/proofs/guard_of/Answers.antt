@@ -1,6 +1,5 @@
 -- `format::guard_of` meets its contract. Assumes nothing.
 use mathlib.Core.Path.{sym, ap, ◌∙◌}
-use borrow.Author.Rules.{rules}
 use Rattle.format.specs.Formats.{Format}
 use Rattle.format.proofs.Laws.{of_two, of_three, of_other}
 use Rattle.format.proofs.guard_of.Goals as goal

@@ -1,6 +1,5 @@
 -- `format::guards` meets its contract. Assumes nothing.
 use mathlib.Core.Path.{sym, ap, ◌∙◌}
-use borrow.Author.Rules.{rules}
 use Rattle.format.specs.Formats.{Format, guards_of}
 use Rattle.format.proofs.Laws.{of_three, guards-large}
 use Rattle.format.proofs.guards.Goals as goal

@@ -1,6 +1,5 @@
 -- `format::narrow_guards` meets its contract. Assumes nothing.
 use mathlib.Core.Path.{sym, ap, ◌∙◌}
-use borrow.Author.Rules.{rules}
 use Rattle.format.specs.Formats.{Format, guards_of}
 use Rattle.format.proofs.Laws.{of_two, of_other, guards-t10, guards-checksummed}
 use Rattle.format.proofs.narrow_guards.Goals as goal

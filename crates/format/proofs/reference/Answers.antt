@@ -1,7 +1,6 @@
 -- `format::reference` meets its contract. Assumes nothing.
 use mathlib.Core.Path.{sym}
 use borrow.Author.Rules.{rules}
-use native.Mathlib.Omega.{arith}
 use Rattle.format.proofs.References.{low_told, all_told}
 use Rattle.format.proofs.reference.Goals as goal
 

@@ -2,7 +2,6 @@
 use mathlib.Core.Path.{◌≡◌, sym, ap}
 use Prim.Native.Nat.{◌*◌}
 use native.Mathlib.Nat.{mul-one}
-use borrow.Author.Rules.{rules}
 use Rattle.format.specs.Formats.{Format}
 use Rattle.format.proofs.Laws.{of_three, of_small}
 use Rattle.format.proofs.scaled.Goals as goal

@@ -1,6 +1,5 @@
 -- `format::settled` meets its contract. Assumes nothing.
 use mathlib.Core.Path.{sym, ◌∙◌}
-use borrow.Author.Rules.{rules}
 use Rattle.format.proofs.Laws.{settled-none, settled-large}
 use Rattle.format.proofs.settled.Goals as goal
 

@@ -3,7 +3,6 @@
 use mathlib.Core.Path.{ap}
 use Prim.Native.Nat.{ℕ, ◌/◌, ◌%◌}
 use Rattle.tag.proofs.Numbers.{eight_bits}
-use borrow.Author.Rules.{rules}
 use Rattle.intent.proofs.byte_above.Goals as goal
 
 pub returns : goal.returns

@@ -1,14 +1,10 @@
 -- `intent::entries_fit` meets its contract. The invariant: whether the entries still to come fit is whether all do.
 -- Assumes nothing.
-use mathlib.Core.Path.{◌≡◌, refl, sym, ◌∙◌}
+use mathlib.Core.Path.{refl, sym, ◌∙◌}
 use mathlib.Core.Bool.{true, false}
-use Prim.Native.Nat.{◌-◌, ◌≤◌}
 use native.Mathlib.Omega.{arith}
-use borrow.Author.Tests.{not-true, not-false}
-use lib.ListN.{length}
 use Rattle.intent.specs.Records.{entries_fit}
-use Rattle.intent.proofs.Entries.{still_fits, fits-turn, fits_end}
-use borrow.Author.Rules.{rules}
+use Rattle.intent.proofs.Entries.{fits-turn, fits_end}
 use Rattle.intent.proofs.entries_fit.Goals as goal
 
 pub loop-i-init : goal.loop-i-init

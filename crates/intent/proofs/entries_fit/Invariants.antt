@@ -1,14 +1,10 @@
 -- `intent::entries_fit` meets its contract. The invariant: whether the entries still to come fit is whether all do.
 -- Assumes nothing.
-use mathlib.Core.Path.{◌≡◌, refl, sym, ◌∙◌}
-use mathlib.Core.Bool.{true, false}
+use mathlib.Core.Path.{◌≡◌}
 use Prim.Native.Nat.{◌-◌, ◌≤◌}
-use native.Mathlib.Omega.{arith}
-use borrow.Author.Tests.{not-true, not-false}
 use lib.ListN.{length}
 use Rattle.intent.specs.Records.{entries_fit}
-use Rattle.intent.proofs.Entries.{still_fits, fits-turn, fits_end}
-use borrow.Author.Rules.{rules}
+use Rattle.intent.proofs.Entries.{still_fits}
 use Rattle.intent.proofs.entries_fit.Given as goal
 
 abbrev pub invariant-loop-i : goal.invariant-loop-i

@@ -1,13 +1,11 @@
 -- `intent::entries_of` meets its contract. The invariant: the entries passed are as they are read.
 -- Assumes nothing.
-use mathlib.Core.Path.{◌≡◌, refl, ◌∙◌}
-use Prim.Native.Nat.{◌-◌, ◌*◌, ◌≤◌, ◌<◌}
+use mathlib.Core.Path.{refl, ◌∙◌}
+use Prim.Native.Nat.{◌*◌, ◌<◌}
 use native.Mathlib.Omega.{arith}
-use lib.ListN.{length, take, length-set}
-use Rattle.stripe.specs.Tables.{table}
+use lib.ListN.{length, length-set}
 use Rattle.stripe.proofs.Tables.{table_filled}
 use Rattle.intent.proofs.Entries.{entry_at, entry_read, all_read}
-use borrow.Author.Rules.{rules}
 use Rattle.intent.proofs.entries_of.Goals as goal
 
 pub loop-i-init : goal.loop-i-init

@@ -1,13 +1,12 @@
 -- `intent::entry_at` meets its contract. The invariant: the number so far is that of the bytes so far.
 -- Assumes nothing.
 use mathlib.Core.Path.{◌≡◌, refl, sym, ap, ◌∙◌}
-use Prim.Native.Nat.{ℕ, ◌-◌, ◌≤◌, ◌<◌}
+use Prim.Native.Nat.{ℕ, ◌≤◌, ◌<◌}
 use native.Mathlib.Omega.{arith}
 use lib.ListN.{length, take, drop, length-take, length-drop}
 use lib.Seq.{get_or-drop}
 use Rattle.tag.specs.Numbers.{number_of}
 use Rattle.tag.proofs.Numbers.{number-room, number-turn, bytes_of_part, bytes_of_rest}
-use borrow.Author.Rules.{rules}
 use Rattle.intent.proofs.entry_at.Goals as goal
 
 pub loop-i-init : goal.loop-i-init

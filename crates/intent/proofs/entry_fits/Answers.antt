@@ -4,7 +4,6 @@ use Prim.Native.Nat.{ℕ}
 use native.Mathlib.Omega.{arith}
 use lib.Dec.{eqb}
 use Rattle.intent.proofs.Entries.{fits_free, fits-past, fits-once}
-use borrow.Author.Rules.{rules}
 use Rattle.intent.proofs.entry_fits.Goals as goal
 
 pub returns-then-entry-eq0 : goal.returns-then-entry-eq0

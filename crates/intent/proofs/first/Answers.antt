@@ -1,13 +1,8 @@
 -- `intent::first` meets its contract. The invariant: the first from here on is the first of all.
 -- Assumes nothing.
-use mathlib.Core.Path.{◌≡◌, ◌∙◌}
-use Prim.Native.Nat.{◌+◌, ◌-◌, ◌≤◌}
+use mathlib.Core.Path.{◌∙◌}
 use native.Mathlib.Omega.{arith}
-use lib.ListN.{length, drop}
-use Rattle.verdict.specs.Verdicts.{lowest}
-use Rattle.intent.specs.Records.{those}
 use Rattle.intent.proofs.Entries.{found_here, found-later, found_nowhere}
-use borrow.Author.Rules.{rules}
 use Rattle.intent.proofs.first.Goals as goal
 
 pub loop-i-init : goal.loop-i-init

@@ -1,13 +1,10 @@
 -- `intent::first` meets its contract. The invariant: the first from here on is the first of all.
 -- Assumes nothing.
-use mathlib.Core.Path.{◌≡◌, ◌∙◌}
+use mathlib.Core.Path.{◌≡◌}
 use Prim.Native.Nat.{◌+◌, ◌-◌, ◌≤◌}
-use native.Mathlib.Omega.{arith}
 use lib.ListN.{length, drop}
 use Rattle.verdict.specs.Verdicts.{lowest}
 use Rattle.intent.specs.Records.{those}
-use Rattle.intent.proofs.Entries.{found_here, found-later, found_nowhere}
-use borrow.Author.Rules.{rules}
 use Rattle.intent.proofs.first.Given as goal
 
 abbrev pub invariant-loop-i : goal.invariant-loop-i

@@ -1,12 +1,11 @@
 -- `intent::many` meets its contract. The invariant: the count so far is that of the entries passed, which are those at the end.
 -- Assumes nothing.
 use mathlib.Core.Path.{◌≡◌, sym, ap, ◌∙◌}
-use Prim.Native.Nat.{ℕ, ◌+◌, ◌-◌, ◌≤◌}
+use Prim.Native.Nat.{ℕ, ◌+◌}
 use native.Mathlib.Omega.{arith}
 use lib.ListN.{length, drop}
 use Rattle.intent.specs.Records.{many}
 use Rattle.intent.proofs.Entries.{counted, passed_over, few, none-counted}
-use borrow.Author.Rules.{rules}
 use Rattle.intent.proofs.many.Goals as goal
 
 pub loop-i-init : goal.loop-i-init

@@ -1,12 +1,9 @@
 -- `intent::many` meets its contract. The invariant: the count so far is that of the entries passed, which are those at the end.
 -- Assumes nothing.
-use mathlib.Core.Path.{◌≡◌, sym, ap, ◌∙◌}
-use Prim.Native.Nat.{ℕ, ◌+◌, ◌-◌, ◌≤◌}
-use native.Mathlib.Omega.{arith}
+use mathlib.Core.Path.{◌≡◌}
+use Prim.Native.Nat.{◌≤◌}
 use lib.ListN.{length, drop}
 use Rattle.intent.specs.Records.{many}
-use Rattle.intent.proofs.Entries.{counted, passed_over, few, none-counted}
-use borrow.Author.Rules.{rules}
 use Rattle.intent.proofs.many.Given as goal
 
 abbrev pub invariant-loop-i : goal.invariant-loop-i

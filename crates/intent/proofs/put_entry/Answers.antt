@@ -2,13 +2,12 @@
 -- Assumes nothing.
 use mathlib.Core.Path.{◌≡◌, refl, sym, ap, ◌∙◌}
 use mathlib.Core.List.{List}
-use Prim.Native.Nat.{ℕ, ◌+◌, ◌-◌, ◌≤◌}
+use Prim.Native.Nat.{ℕ}
 use native.Mathlib.Omega.{arith}
-use lib.ListN.{length, length-set}
+use lib.ListN.{length-set}
 use lib.Seq.{sets}
 use Rattle.tag.specs.Numbers.{bytes_of}
 use Rattle.tag.proofs.Numbers.{put-turn}
-use borrow.Author.Rules.{rules}
 use Rattle.intent.proofs.put_entry.Goals as goal
 
 nothing : (t : List ℕ) (to x : ℕ) → sets t to (bytes_of 0 x) ≡ t

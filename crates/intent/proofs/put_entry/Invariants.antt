@@ -1,14 +1,10 @@
 -- `intent::put_entry` meets its contract. The invariant: what is left to write, over what is written, is the whole.
 -- Assumes nothing.
-use mathlib.Core.Path.{◌≡◌, refl, sym, ap, ◌∙◌}
-use mathlib.Core.List.{List}
-use Prim.Native.Nat.{ℕ, ◌+◌, ◌-◌, ◌≤◌}
-use native.Mathlib.Omega.{arith}
-use lib.ListN.{length, length-set}
+use mathlib.Core.Path.{◌≡◌}
+use Prim.Native.Nat.{◌+◌, ◌≤◌}
+use lib.ListN.{length}
 use lib.Seq.{sets}
 use Rattle.tag.specs.Numbers.{bytes_of}
-use Rattle.tag.proofs.Numbers.{put-turn}
-use borrow.Author.Rules.{rules}
 use Rattle.intent.proofs.put_entry.Given as goal
 
 abbrev pub invariant-loop-left : goal.invariant-loop-left

@@ -8,7 +8,6 @@ use Rattle.tag.specs.Numbers.{bytes_of}
 use Rattle.verdict.specs.Verdicts.{lowest}
 use Rattle.intent.specs.Records.{entries, those, written}
 use Rattle.intent.proofs.Counted.{first-inside}
-use borrow.Author.Rules.{rules}
 use Rattle.intent.proofs.rewrite.Goals as goal
 
 pub overflow_mul-place : goal.overflow_mul-place

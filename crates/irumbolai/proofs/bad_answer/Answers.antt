@@ -2,7 +2,6 @@
 use mathlib.Core.Path.{ap, ap₂, ◌∙◌}
 use mathlib.Core.List.{[], ◌∷◌}
 use Prim.Native.Nat.{ℕ, ◌-◌, ◌/◌, ◌%◌}
-use borrow.Author.Rules.{rules}
 use Rattle.irumbolai.proofs.bad_answer.Goals as goal
 
 pub returns : goal.returns

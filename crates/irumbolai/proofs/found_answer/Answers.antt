@@ -1,6 +1,5 @@
 -- `found_answer` sets out what it is handed, case by case. Assumes nothing.
 use native.Mathlib.Omega.{arith}
-use borrow.Author.Rules.{rules}
 use Rattle.irumbolai.proofs.found_answer.Goals as goal
 
 pub overflow_cast-first : goal.overflow_cast-first

@@ -1,5 +1,4 @@
 -- `verdict_answer` sets out what it is handed, case by case. Assumes nothing.
-use borrow.Author.Rules.{rules}
 use Rattle.irumbolai.proofs.verdict_answer.Goals as goal
 
 pub found_answer-requires : goal.found_answer-requires

@@ -1,6 +1,5 @@
 -- `join::add_zeros` meets its contract: its table is computed from the rule, and compared entry by entry.
 -- Assumes nothing.
-use borrow.Author.Rules.{rules}
 use Rattle.crc.specs.Crc.{bit_step, bits, bits_of, feed}
 use Rattle.crc.specs.Guard.{run}
 use Rattle.join.specs.Remainders.{horner, product, squares}

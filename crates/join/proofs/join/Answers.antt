@@ -2,7 +2,6 @@
 -- Assumes nothing.
 use mathlib.Core.Path.{ap, ◌∙◌}
 use Prim.Native.Nat.{ℕ}
-use borrow.Author.Rules.{rules}
 use lib.Bits.{bit_xor}
 use Rattle.join.specs.Joins.{join}
 use Rattle.join.proofs.join.Goals as goal

@@ -1,6 +1,5 @@
 -- `join::remove_zeros` meets its contract: its table is computed from the rule, and compared entry by entry.
 -- Assumes nothing.
-use borrow.Author.Rules.{rules}
 use Rattle.crc.specs.Crc.{bit_step}
 use Rattle.join.specs.Remainders.{horner, product, squares}
 use Rattle.join.specs.Joins.{inverses, remove_zeros}

@@ -1,11 +1,9 @@
 -- `join::scaled` meets its contract. The invariant: the factors still to come, from the register and the digits now, give the
 -- result. Assumes nothing.
-use mathlib.Core.Logic.{⊎_elim}
 use mathlib.Core.Path.{◌≡◌, refl, sym, ap, ◌∙◌}
-use Prim.Native.Nat.{ℕ, ◌+◌, ◌-◌, ◌/◌, ◌%◌, ◌≤◌}
+use Prim.Native.Nat.{ℕ, ◌+◌, ◌/◌, ◌%◌}
 use native.Mathlib.Omega.{arith}
-use borrow.Author.Rules.{rules}
-use lib.ListN.{length, get_or, drop}
+use lib.ListN.{get_or, drop}
 use Rattle.crc.specs.Guard.{generator}
 use Rattle.join.specs.Remainders.{chosen, scaled}
 use Rattle.join.proofs.Scaling.{scaled-turn, scaled_end}

@@ -1,14 +1,10 @@
 -- `join::scaled` meets its contract. The invariant: the factors still to come, from the register and the digits now, give the
 -- result. Assumes nothing.
-use mathlib.Core.Logic.{⊎_elim}
-use mathlib.Core.Path.{◌≡◌, refl, sym, ap, ◌∙◌}
-use Prim.Native.Nat.{ℕ, ◌+◌, ◌-◌, ◌/◌, ◌%◌, ◌≤◌}
-use native.Mathlib.Omega.{arith}
-use borrow.Author.Rules.{rules}
-use lib.ListN.{length, get_or, drop}
+use mathlib.Core.Path.{◌≡◌}
+use Prim.Native.Nat.{◌-◌, ◌≤◌}
+use lib.ListN.{length, drop}
 use Rattle.crc.specs.Guard.{generator}
-use Rattle.join.specs.Remainders.{chosen, scaled}
-use Rattle.join.proofs.Scaling.{scaled-turn, scaled_end}
+use Rattle.join.specs.Remainders.{scaled}
 use Rattle.join.proofs.scaled.Given as goal
 
 abbrev pub invariant-loop-i : goal.invariant-loop-i

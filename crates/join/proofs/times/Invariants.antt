@@ -1,13 +1,9 @@
 -- `join::times` meets its contract. The invariant: the digits still to come, from the register now, give the product.
 -- Assumes nothing.
-use mathlib.Core.Path.{◌≡◌, refl, sym, ap, ◌∙◌}
-use Prim.Native.Nat.{ℕ, suc, ◌-◌, ◌*◌, ◌/◌, ◌%◌, ◌^◌, ◌≤◌}
-use native.Mathlib.Omega.{arith}
-use borrow.Author.Rules.{rules}
-use lib.Bits.{bit_xor}
+use mathlib.Core.Path.{◌≡◌}
+use Prim.Native.Nat.{◌≤◌}
 use Rattle.crc.specs.Guard.{generator}
 use Rattle.join.specs.Remainders.{horner, product}
-use Rattle.join.proofs.Products.{digit_lt}
 use Rattle.join.proofs.times.Given as goal
 
 abbrev pub invariant-loop-left : goal.invariant-loop-left

@@ -1,6 +1,5 @@
 -- `array_refusal` is `array_refusal`: the tests in their order. Assumes nothing.
 use Rattle.layout.specs.Arrays.{array_refusal}
-use Rattle.std.proofs.Common.{rules}
 use Rattle.layout.proofs.array_refusal.Goals as goal
 
 pub returns : goal.returns

@@ -1,5 +1,5 @@
 -- `block_refusal` is `block_refusal`: in a sound array the number of blocks fits. Assumes nothing.
-use Rattle.std.proofs.Common.{sym, ◌∙◌, arith, rules}
+use Rattle.std.proofs.Common.{sym, ◌∙◌, arith}
 use Rattle.layout.specs.Arrays.{block_refusal}
 use Rattle.layout.proofs.Answers.{after_refused}
 use Rattle.layout.proofs.Ranges.{array_sound}

@@ -1,5 +1,5 @@
 -- `index_beside` is `index_beside`. Assumes nothing.
-use Rattle.std.proofs.Common.{rules, le-ltb, lt-ltb}
+use Rattle.std.proofs.Common.{le-ltb, lt-ltb}
 use Rattle.layout.proofs.index_beside.Goals as goal
 
 pub returns-then-member-parity : goal.returns-then-member-parity

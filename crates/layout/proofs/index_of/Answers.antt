@@ -1,6 +1,5 @@
 -- `index_of` is `index_of`. Assumes nothing.
 use Rattle.layout.specs.Places.{index_of}
-use Rattle.std.proofs.Common.{rules}
 use Rattle.layout.proofs.index_of.Goals as goal
 
 pub returns : goal.returns

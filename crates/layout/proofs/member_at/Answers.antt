@@ -1,5 +1,5 @@
 -- `member_at` is `member_at`. Assumes nothing.
-use Rattle.std.proofs.Common.{rules, le-ltb, lt-ltb}
+use Rattle.std.proofs.Common.{le-ltb, lt-ltb}
 use Rattle.layout.specs.Places.{member_at}
 use Rattle.layout.proofs.member_at.Goals as goal
 

@@ -1,5 +1,5 @@
 -- `over` is the quotient, by 0 and by 1 too. Assumes nothing.
-use Rattle.std.proofs.Common.{ℕ, ◌/◌, sym, ap, ◌∙◌, div-one, rules}
+use Rattle.std.proofs.Common.{ℕ, ◌/◌, sym, ap, ◌∙◌, div-one}
 use native.Mathlib.Nat.{div-zero}
 use Rattle.layout.proofs.over.Goals as goal
 

@@ -1,5 +1,5 @@
 -- `owner` answers `owner_numbers`: told by what its stripe is found by. Assumes nothing.
-use Rattle.std.proofs.Common.{sym, ◌∙◌, rules}
+use Rattle.std.proofs.Common.{sym, ◌∙◌}
 use Rattle.layout.proofs.Numbers.{owner_refused}
 use Rattle.layout.proofs.Seats.{beside_owner}
 use Rattle.layout.proofs.owner.Goals as goal

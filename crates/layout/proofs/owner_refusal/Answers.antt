@@ -1,5 +1,4 @@
 -- `owner_refusal` is `owner_refusal`. Assumes nothing.
-use Rattle.std.proofs.Common.{rules}
 use Rattle.layout.specs.Places.{owner_refusal}
 use Rattle.layout.proofs.owner_refusal.Goals as goal
 

@@ -1,6 +1,5 @@
 -- `parity_member` is `parity_member`, with no members too. Assumes nothing.
 use Rattle.layout.specs.Places.{parity_member}
-use Rattle.std.proofs.Common.{rules}
 use Rattle.layout.proofs.parity_member.Goals as goal
 
 pub returns : goal.returns

@@ -1,5 +1,5 @@
 -- `place` answers `place_numbers`. Assumes nothing.
-use Rattle.std.proofs.Common.{sym, ◌∙◌, arith, rules}
+use Rattle.std.proofs.Common.{sym, ◌∙◌, arith}
 use Rattle.layout.proofs.Ranges.{block_sound}
 use Rattle.layout.proofs.Blocks.{index_in_stripe}
 use Rattle.layout.proofs.Numbers.{place_refused, place-numbers}

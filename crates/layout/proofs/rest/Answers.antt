@@ -1,5 +1,5 @@
 -- `rest` is the rest, by 0 and by 1 too. Assumes nothing.
-use Rattle.std.proofs.Common.{ℕ, ◌%◌, sym, ap, ◌∙◌, rules}
+use Rattle.std.proofs.Common.{ℕ, ◌%◌, sym, ap, ◌∙◌}
 use native.Mathlib.Nat.{mod-zero, mod-one}
 use Rattle.layout.proofs.rest.Goals as goal
 

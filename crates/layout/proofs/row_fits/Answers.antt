@@ -1,5 +1,5 @@
 -- `row_fits` is `row_fit`. Assumes nothing.
-use Rattle.std.proofs.Common.{rules, eq-eqb, ne_eqb}
+use Rattle.std.proofs.Common.{ne_eqb}
 use Rattle.layout.proofs.row_fits.Goals as goal
 
 pub returns-then-rest-eq0 : goal.returns-then-rest-eq0

@@ -1,5 +1,5 @@
 -- `seat_of` is `seat_of`. Assumes nothing.
-use Rattle.std.proofs.Common.{ℕ, ap₂, rules}
+use Rattle.std.proofs.Common.{ℕ, ap₂}
 use Rattle.layout.specs.declared.Seat.{Seat}
 use Rattle.layout.proofs.seat_of.Goals as goal
 

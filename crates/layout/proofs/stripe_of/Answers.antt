@@ -1,5 +1,5 @@
 -- `stripe_of` is `stripe_of`: in a sound array it fits. Assumes nothing.
-use Rattle.std.proofs.Common.{arith, rules}
+use Rattle.std.proofs.Common.{arith}
 use Rattle.layout.specs.Places.{stripe_of}
 use Rattle.layout.proofs.Ranges.{block_sound}
 use Rattle.layout.proofs.Blocks.{stripe-fits}

@@ -1,5 +1,4 @@
 -- `stripe_refusal` is `stripe_refusal`. Assumes nothing.
-use Rattle.std.proofs.Common.{rules}
 use Rattle.layout.specs.Arrays.{stripe_refusal}
 use Rattle.layout.proofs.stripe_refusal.Goals as goal
 

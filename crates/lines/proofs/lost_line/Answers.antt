@@ -1,6 +1,5 @@
 -- `lines::lost_line` meets its contract. Assumes nothing.
 use native.Mathlib.Omega.{arith}
-use borrow.Author.Rules.{rules}
 use Rattle.lines.specs.Lines.{lost_line}
 use Rattle.lines.specs.Text.{lost_word}
 use Rattle.lines.proofs.Lines.{none_written, fits-there}

@@ -2,7 +2,6 @@
 use mathlib.Core.Path.{◌∙◌}
 use native.Mathlib.Omega.{arith}
 use lib.ListN.{length-take}
-use borrow.Author.Rules.{rules}
 use Rattle.lines.proofs.Digits.{length-decimal, few-digits, digits_decimal}
 use Rattle.lines.proofs.number.Goals as goal
 

@@ -1,6 +1,5 @@
 -- `lines::refused_line` meets its contract. Assumes nothing.
 use native.Mathlib.Omega.{arith}
-use borrow.Author.Rules.{rules}
 use Rattle.lines.specs.Lines.{refused_line}
 use Rattle.lines.specs.Text.{refused_word}
 use Rattle.lines.proofs.Lines.{none_written, fits-there}

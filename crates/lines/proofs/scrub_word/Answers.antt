@@ -1,5 +1,4 @@
 -- `lines::scrub_word` meets its contract: the byte string is `scrub_word`. Assumes nothing.
-use borrow.Author.Rules.{rules}
 use Rattle.lines.specs.Text.{scrub_word}
 use Rattle.lines.proofs.scrub_word.Goals as goal
 

@@ -1,6 +1,5 @@
 -- `lines::stripe_line` meets its contract, verdict by verdict. Assumes nothing.
 use native.Mathlib.Omega.{arith}
-use borrow.Author.Rules.{rules}
 use Rattle.lines.specs.Text.{decimal, clean_word, bad_word, unchecked_word, torn_word}
 use Rattle.lines.proofs.Lines.{clean_line, bad-line, unchecked-line, torn-line, none_written, fits-there}
 use Rattle.lines.proofs.Texts.{text_behind, word-behind}

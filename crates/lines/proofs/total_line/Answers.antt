@@ -1,6 +1,5 @@
 -- `lines::total_line` meets its contract. Assumes nothing.
 use native.Mathlib.Omega.{arith}
-use borrow.Author.Rules.{rules}
 use Rattle.lines.specs.Lines.{total_line}
 use Rattle.lines.specs.Text.{decimal, total_word, clean_count, bad_count, unchecked_count, torn_count}
 use Rattle.lines.proofs.Lines.{none_written, fits-there}

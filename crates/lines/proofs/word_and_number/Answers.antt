@@ -1,6 +1,5 @@
 -- `lines::word_and_number` meets its contract. Assumes nothing.
 use native.Mathlib.Omega.{arith}
-use borrow.Author.Rules.{rules}
 use Rattle.lines.proofs.Texts.{text_behind}
 use Rattle.lines.proofs.word_and_number.Goals as goal
 

@@ -1,6 +1,5 @@
 -- `lines::word_and_numbers` meets its contract. Assumes nothing.
 use native.Mathlib.Omega.{arith}
-use borrow.Author.Rules.{rules}
 use Rattle.lines.specs.Text.{decimal, blank}
 use Rattle.lines.proofs.Texts.{word-behind}
 use Rattle.lines.proofs.word_and_numbers.Goals as goal

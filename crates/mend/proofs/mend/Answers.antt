@@ -1,7 +1,6 @@
 -- `mend::mend` meets its contract. Assumes nothing.
 use Rattle.mend.proofs.Deciding.{no_line, line_same, found_mends, found-lists, refused_stays, refused_unlisted}
 use mathlib.Core.Path.{◌∙◌}
-use borrow.Author.Rules.{rules}
 use Rattle.mend.proofs.mend.Goals as goal
 
 pub returns-in-Refused : goal.returns-in-Refused

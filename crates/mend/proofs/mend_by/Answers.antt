@@ -1,7 +1,6 @@
 -- `mend::mend_by` meets its contract, verdict by verdict. Assumes nothing.
 use Rattle.mend.proofs.Deciding.{no_line, line_same, clean_stays, clean_unlisted, bad_rebuilds, bad-listed, torn_stays, torn-listed, unchecked_stays, unchecked-listed}
 use mathlib.Core.Path.{◌∙◌}
-use borrow.Author.Rules.{rules}
 use Rattle.mend.proofs.mend_by.Goals as goal
 
 pub returns-in-Clean : goal.returns-in-Clean

@@ -1,6 +1,5 @@
 -- `mend::rebuild_or_lose` meets its contract. Assumes nothing.
 use Rattle.mend.proofs.Deciding.{no_line, line_same, rebuilt_unlisted, refused_lost}
-use borrow.Author.Rules.{rules}
 use Rattle.mend.proofs.rebuild_or_lose.Goals as goal
 
 pub returns-then-refusal-eq0 : goal.returns-then-refusal-eq0

@@ -2,7 +2,6 @@
 -- Assumes nothing.
 use mathlib.Core.Path.{ap, ◌∙◌}
 use Rattle.nibbles.specs.Nibbles.{looked}
-use borrow.Author.Rules.{rules}
 use Rattle.nibbles.proofs.end.Goals as goal
 
 pub returns : goal.returns

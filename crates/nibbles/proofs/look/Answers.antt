@@ -1,13 +1,12 @@
 -- `nibbles::look` meets its contract. The invariant: what was found is what the first i times four bits give.
 -- Assumes nothing.
 use mathlib.Core.Path.{◌≡◌, refl, ap, ◌∙◌}
-use Prim.Native.Nat.{ℕ, ◌*◌, ◌/◌, ◌%◌, ◌^◌, ◌+◌, ◌-◌, ◌≤◌}
+use Prim.Native.Nat.{ℕ, ◌*◌, ◌/◌, ◌%◌, ◌^◌, ◌+◌}
 use native.Mathlib.Numerals.{add-one}
 use native.Mathlib.Omega.{arith}
 use lib.ListN.{get_or}
 use lib.Bits.{bit_xor}
 use Rattle.nibbles.specs.Nibbles.{looked}
-use borrow.Author.Rules.{rules}
 use Rattle.nibbles.proofs.look.Goals as goal
 
 pub loop-i-init : goal.loop-i-init

@@ -1,6 +1,5 @@
 -- `patrol::begin` meets its contract. Assumes nothing.
 use mathlib.Core.Path.{sym, ap, ◌∙◌}
-use borrow.Author.Rules.{rules}
 use Rattle.layout.specs.declared.Array.{Array}
 use Rattle.patrol.specs.Patrols.{patrol_at}
 use Rattle.patrol.proofs.Answers.{begun, not-begun}

@@ -3,7 +3,6 @@ use mathlib.Core.Path.{sym, ap, ◌∙◌}
 use Prim.Native.Nat.{ℕ, ◌+◌, ◌%◌, ◌<◌}
 use native.Mathlib.Nat.{mod-eq_of_lt, mod_self}
 use native.Mathlib.Omega.{arith}
-use borrow.Author.Rules.{rules}
 use Rattle.patrol.specs.Patrols.{following}
 use Rattle.patrol.proofs.following.Goals as goal
 
@@ -16,5 +15,5 @@ returns-then-next-array c =
 pub returns-else-next-array : goal.returns-else-next-array
 unfolding following
 returns-else-next-array c =
-    let before-end : c.args.stripe + 1 < c.args.array.stripes = omega arith in
-    sym (mod-eq_of_lt before-end)
+    let before_end : c.args.stripe + 1 < c.args.array.stripes = omega arith in
+    sym (mod-eq_of_lt before_end)

@@ -3,7 +3,6 @@ use mathlib.Core.Path.{◌≡◌, ap, ◌∙◌}
 use mathlib.Core.List.{List, [], ◌∷◌, ◌++◌}
 use Prim.Native.Nat.{ℕ}
 use native.Mathlib.Omega.{arith}
-use borrow.Author.Rules.{rules}
 use Rattle.stripe.proofs.Scrubs.{scrub_answered}
 use Rattle.patrol.specs.Patrols.{scrub_of}
 use Rattle.patrol.proofs.look.Goals as goal

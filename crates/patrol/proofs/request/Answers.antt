@@ -1,6 +1,5 @@
 -- `patrol::request` meets its contract. Assumes nothing.
 use mathlib.Core.Path.{◌≡◌, sym, ap, ◌∙◌}
-use borrow.Author.Rules.{rules}
 use lib.ListN.{length}
 use Rattle.patrol.specs.Patrols.{request_refusal, seen_numbers, refused_by}
 use Rattle.patrol.proofs.Rows.{request_takes}

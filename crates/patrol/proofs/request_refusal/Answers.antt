@@ -1,5 +1,4 @@
 -- `patrol::request_refusal` meets its contract. Assumes nothing.
-use borrow.Author.Rules.{rules}
 use borrow.Author.Tests.{lt-ltb, le-ltb}
 use Rattle.patrol.specs.Patrols.{request_refusal}
 use Rattle.patrol.proofs.request_refusal.Goals as goal

@@ -2,8 +2,6 @@
 use mathlib.Core.Path.{◌≡◌, sym, ap, ◌∙◌}
 use mathlib.Core.Bool.{true}
 use mathlib.Core.Logic.{◌≢◌}
-use borrow.Author.Rules.{rules}
-use borrow.Author.Tests.{not-true, not-false}
 use lib.ListN.{length}
 use Rattle.patrol.specs.Patrols.{patrol_at, turn_refusal, seen_numbers, refused_by}
 use Rattle.patrol.proofs.Rows.{turn-fit, turn_takes}

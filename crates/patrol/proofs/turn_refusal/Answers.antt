@@ -2,8 +2,6 @@
 use mathlib.Core.Path.{sym, ◌∙◌}
 use mathlib.Core.Bool.{true≢false}
 use native.Mathlib.Omega.{arith}
-use borrow.Author.Rules.{rules}
-use borrow.Author.Tests.{not-true, not-false}
 use Rattle.format.proofs.Sizes.{block-times}
 use Rattle.layout.proofs.Ranges.{stripe_sound, sound_stripe}
 use Rattle.tag.specs.Blocks.{format_at}

@@ -1,15 +1,14 @@
 -- `repair::header_whole` meets its contract. Assumes nothing.
 use mathlib.Core.Path.{◌∙◌, sym, ap}
 use mathlib.Core.List.{List}
-use Prim.Native.Nat.{ℕ, ◌≤◌}
-use lib.ListN.{length, take}
-use Rattle.lines.specs.Headers.{header_room, array_in}
+use Prim.Native.Nat.{ℕ}
+use lib.ListN.{take}
+use Rattle.lines.specs.Headers.{array_in}
 use Rattle.lines.proofs.Lines.{written-whole}
 use Rattle.repair.specs.Repairs.{repair_refusal}
-use Rattle.repair.proofs.Held.{header-held-front, length-header-held}
+use Rattle.repair.proofs.Held.{header-held-front}
 use Rattle.repair.proofs.Refusals.{accepted-array}
 use Rattle.repair.proofs.Doing.{header_refused, header-accepted}
-use borrow.Author.Rules.{rules}
 use Rattle.repair.proofs.header_whole.Goals as goal
 
 pub returns-then-refusal-ne0 : goal.returns-then-refusal-ne0

@@ -1,6 +1,5 @@
 -- `repair::next_stripe` meets its contract. Assumes nothing.
 use Rattle.repair.proofs.Doing.{another_follows, none-follows}
-use borrow.Author.Rules.{rules}
 use Rattle.repair.proofs.next_stripe.Goals as goal
 
 pub returns-then-next-array : goal.returns-then-next-array

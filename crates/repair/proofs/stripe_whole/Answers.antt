@@ -2,7 +2,6 @@
 use mathlib.Core.Path.{refl}
 use Rattle.lines.proofs.Lines.{written-whole}
 use Rattle.repair.proofs.Doing.{stripe-mended}
-use borrow.Author.Rules.{rules}
 use Rattle.repair.proofs.stripe_whole.Goals as goal
 
 pub returns : goal.returns

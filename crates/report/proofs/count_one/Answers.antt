@@ -1,5 +1,4 @@
 -- `report::count_one` meets its contract, verdict by verdict. Assumes nothing.
-use borrow.Author.Rules.{rules}
 use Rattle.report.specs.Reports.{counted}
 use Rattle.report.proofs.count_one.Goals as goal
 

@@ -1,5 +1,4 @@
 -- `report::stripe_judged` meets its contract: another stripe begins, or it was the last. Assumes nothing.
-use borrow.Author.Rules.{rules}
 use Rattle.verdict.specs.Verdicts.{verdict_numbers}
 use Rattle.lines.proofs.Lines.{written-whole}
 use Rattle.report.proofs.StripeSteps.{next_begins, last-judged}

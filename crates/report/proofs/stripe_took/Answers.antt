@@ -1,7 +1,5 @@
 -- `report::stripe_took` meets its contract: the stripe lacks more bytes, or is whole now. Assumes nothing.
 use native.Mathlib.Omega.{arith}
-use borrow.Author.Rules.{rules}
-use lib.ListN.{length}
 use Rattle.format.proofs.Sizes.{block-most}
 use Rattle.tag.specs.Blocks.{format_at}
 use Rattle.report.proofs.Blocks.{stripe-most}

@@ -1,5 +1,4 @@
 -- `report::stripe_whole` meets its contract: the scan refuses, or has a verdict. Assumes nothing.
-use borrow.Author.Rules.{rules}
 use Rattle.lines.proofs.Lines.{written-whole}
 use Rattle.report.proofs.StripeSteps.{not-judged, judged_by}
 use Rattle.report.proofs.stripe_whole.Goals as goal

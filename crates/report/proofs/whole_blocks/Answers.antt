@@ -2,7 +2,6 @@
 use mathlib.Core.Path.{ap}
 use Prim.Native.Nat.{ℕ, ◌/◌}
 use native.Mathlib.Omega.{arith}
-use borrow.Author.Rules.{rules}
 use Rattle.tag.specs.Blocks.{format_at}
 use Rattle.report.proofs.Blocks.{block-some}
 use Rattle.report.proofs.whole_blocks.Goals as goal

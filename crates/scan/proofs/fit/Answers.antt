@@ -1,5 +1,5 @@
 -- `scan::fit` is `fit`, of the parts of a state: by the members one by one. Assumes nothing.
-use mathlib.Core.Path.{◌≡◌, sym, ◌∙◌}
+use mathlib.Core.Path.{sym, ◌∙◌}
 use mathlib.Core.List.{List, []}
 use Prim.Native.Nat.{ℕ, ◌≤◌}
 use native.Mathlib.Omega.{arith}
@@ -8,7 +8,6 @@ use Rattle.layout.proofs.Ranges.{stripe_sound}
 use Rattle.scan.specs.declared.Scan.{Scan}
 use Rattle.scan.specs.Scans.{fit}
 use Rattle.scan.proofs.Fitness.{numbers-unfit, numbers_fit}
-use borrow.Author.Rules.{rules}
 use Rattle.scan.proofs.fit.Goals as goal
 
 -- a state of these parts

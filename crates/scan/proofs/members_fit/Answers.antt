@@ -1,12 +1,10 @@
 -- `scan::members_fit` meets its contract. The invariant: those passed may stand as they do. Assumes nothing.
 use mathlib.Core.Path.{◌≡◌, sym, ◌∙◌}
 use mathlib.Core.Bool.{true}
-use Prim.Native.Nat.{ℕ, ◌-◌, ◌≤◌, ◌<◌}
+use Prim.Native.Nat.{ℕ}
 use native.Mathlib.Omega.{arith}
 use lib.ListN.{get_or}
 use borrow.Author.Count.{below_more}
-use borrow.Author.Rules.{rules}
-use borrow.Author.Tests.{not-true, not-false}
 use Rattle.format.specs.Methods.{format_of}
 use Rattle.scan.specs.Steps.{member_fit}
 use Rattle.scan.proofs.Fitness.{flag_table, table-unflagged}

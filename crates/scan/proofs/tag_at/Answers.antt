@@ -1,11 +1,10 @@
 -- `scan::tag_at` meets its contract.
 -- Assumes nothing.
 use mathlib.Core.Path.{ap}
-use Prim.Native.Nat.{ℕ, ◌*◌, ◌≤◌}
+use Prim.Native.Nat.{ℕ, ◌*◌}
 use native.Mathlib.Nat.{mul-le-mul_left}
 use native.Mathlib.Omega.{arith}
 use Rattle.format.specs.Methods.{format_of}
-use borrow.Author.Rules.{rules}
 use Rattle.scan.proofs.tag_at.Goals as goal
 
 pub overflow_mul-result : goal.overflow_mul-result

@@ -1,9 +1,8 @@
 -- `stripe::block_at` meets its contract.
 -- Assumes nothing.
 use mathlib.Core.Path.{ap}
-use Prim.Native.Nat.{ℕ, ◌*◌, ◌≤◌}
+use Prim.Native.Nat.{ℕ, ◌*◌}
 use native.Mathlib.Omega.{arith}
-use borrow.Author.Rules.{rules}
 use Rattle.stripe.proofs.block_at.Goals as goal
 
 pub overflow_mul-result : goal.overflow_mul-result

@@ -2,7 +2,7 @@
 -- Assumes nothing.
 use mathlib.Core.Path.{◌≡◌, refl, sym, ap, ◌∙◌}
 use mathlib.Core.List.{List}
-use Prim.Native.Nat.{ℕ, ◌+◌, ◌-◌, ◌%◌, ◌≤◌}
+use Prim.Native.Nat.{ℕ, ◌+◌, ◌≤◌}
 use native.Mathlib.Omega.{arith}
 use lib.ListN.{length}
 use lib.Seq.{sets, length-sets}
@@ -12,7 +12,6 @@ use Rattle.stripe.specs.Tables.{span}
 use Rattle.stripe.specs.Stripes.{others_data}
 use Rattle.stripe.proofs.Pieces.{span_none, put-more}
 use Rattle.stripe.proofs.Rows.{length-others_data}
-use borrow.Author.Rules.{rules}
 use Rattle.stripe.proofs.combined.Goals as goal
 
 pub loop-at-init : goal.loop-at-init

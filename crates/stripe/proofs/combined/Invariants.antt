@@ -1,18 +1,12 @@
 -- `stripe::combined` meets its contract. The invariant: the rows put so far are those of the combination.
 -- Assumes nothing.
-use mathlib.Core.Path.{◌≡◌, refl, sym, ap, ◌∙◌}
-use mathlib.Core.List.{List}
-use Prim.Native.Nat.{ℕ, ◌+◌, ◌-◌, ◌%◌, ◌≤◌}
-use native.Mathlib.Omega.{arith}
-use lib.ListN.{length}
-use lib.Seq.{sets, length-sets}
+use mathlib.Core.Path.{◌≡◌}
+use Prim.Native.Nat.{◌-◌, ◌%◌, ◌≤◌}
+use lib.Seq.{sets}
 use Rattle.format.specs.Formats.{piece_length}
 use Rattle.format.specs.Methods.{format_of}
 use Rattle.stripe.specs.Tables.{span}
 use Rattle.stripe.specs.Stripes.{others_data}
-use Rattle.stripe.proofs.Pieces.{span_none, put-more}
-use Rattle.stripe.proofs.Rows.{length-others_data}
-use borrow.Author.Rules.{rules}
 use Rattle.stripe.proofs.combined.Given as goal
 
 abbrev pub invariant-loop-at : goal.invariant-loop-at

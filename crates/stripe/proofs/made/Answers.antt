@@ -8,7 +8,6 @@ use Rattle.tag.specs.Blocks.{format_at}
 use Rattle.tag.proofs.Guards.{carried-parity, own_data, guard-carried, guard-own}
 use Rattle.stripe.specs.Stripes.{others_guards}
 use Rattle.stripe.proofs.Carried.{fit-parity, fit_data}
-use borrow.Author.Rules.{rules}
 use Rattle.stripe.proofs.made.Goals as goal
 
 pub returns-then-member-parity_member : goal.returns-then-member-parity_member

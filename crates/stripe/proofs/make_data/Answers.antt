@@ -2,7 +2,7 @@
 -- Assumes nothing.
 use mathlib.Core.Path.{◌≡◌, refl, sym, ap, ap₂, ◌∙◌}
 use mathlib.Core.List.{List}
-use Prim.Native.Nat.{ℕ, ◌+◌, ◌-◌, ◌*◌, ◌%◌, ◌≤◌}
+use Prim.Native.Nat.{ℕ, ◌+◌, ◌*◌, ◌≤◌}
 use native.Mathlib.Omega.{arith}
 use lib.ListN.{length}
 use lib.Seq.{sets, length-sets}
@@ -13,7 +13,6 @@ use Rattle.stripe.specs.Tables.{span}
 use Rattle.stripe.specs.Stripes.{others_data}
 use Rattle.stripe.proofs.Pieces.{span_none, span-all, put_next, piece-whole, others_same}
 use Rattle.stripe.proofs.Rows.{length-span, length-others_data}
-use borrow.Author.Rules.{rules}
 use Rattle.stripe.proofs.make_data.Goals as goal
 
 pub block_at-to-requires : goal.block_at-to-requires

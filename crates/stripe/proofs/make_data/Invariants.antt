@@ -1,19 +1,13 @@
 -- `stripe::make_data` meets its contract. The invariant: the pieces put so far are those of the combination, which does not look at where they are put.
 -- Assumes nothing.
-use mathlib.Core.Path.{◌≡◌, refl, sym, ap, ap₂, ◌∙◌}
-use mathlib.Core.List.{List}
-use Prim.Native.Nat.{ℕ, ◌+◌, ◌-◌, ◌*◌, ◌%◌, ◌≤◌}
-use native.Mathlib.Omega.{arith}
+use mathlib.Core.Path.{◌≡◌}
+use Prim.Native.Nat.{◌-◌, ◌*◌, ◌%◌, ◌≤◌}
 use lib.ListN.{length}
-use lib.Seq.{sets, length-sets}
+use lib.Seq.{sets}
 use Rattle.format.specs.Formats.{piece_length}
 use Rattle.format.specs.Methods.{format_of}
-use Rattle.format.proofs.Sizes.{times-next}
 use Rattle.stripe.specs.Tables.{span}
 use Rattle.stripe.specs.Stripes.{others_data}
-use Rattle.stripe.proofs.Pieces.{span_none, span-all, put_next, piece-whole, others_same}
-use Rattle.stripe.proofs.Rows.{length-span, length-others_data}
-use borrow.Author.Rules.{rules}
 use Rattle.stripe.proofs.make_data.Given as goal
 
 abbrev pub invariant-loop-from : goal.invariant-loop-from

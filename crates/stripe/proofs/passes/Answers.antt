@@ -1,12 +1,11 @@
 -- `stripe::passes` meets its contract.
 -- Assumes nothing.
-use mathlib.Core.Path.{◌≡◌, sym, ap, ◌∙◌}
+use mathlib.Core.Path.{sym, ap, ◌∙◌}
 use Prim.Native.Nat.{ℕ}
 use lib.Dec.{eqb}
 use Rattle.layout.proofs.Ranges.{place_sound}
 use Rattle.stripe.proofs.Checked.{stands-there}
 use Rattle.stripe.proofs.Others.{watched_skip, watched_other}
-use borrow.Author.Rules.{rules}
 use Rattle.stripe.proofs.passes.Goals as goal
 
 pub returns-then-member-skip : goal.returns-then-member-skip

@@ -5,7 +5,6 @@ use native.Mathlib.Omega.{arith}
 use lib.Bits.{bit_xor}
 use lib.ListN.{get_or, take}
 use Rattle.verdict.specs.Verdicts.{combined_guards}
-use borrow.Author.Rules.{rules}
 use Rattle.stripe.proofs.plain_guard.Goals as goal
 
 pub returns : goal.returns

@@ -1,8 +1,7 @@
 -- `stripe::row` meets its contract. The invariant: the rows of the members still to come, added to the row now, give the row due.
 -- Assumes nothing.
-use mathlib.Core.Path.{◌≡◌, refl, sym, ap, ◌∙◌}
-use mathlib.Core.Logic.{⊎_elim}
-use Prim.Native.Nat.{ℕ, ◌+◌, ◌-◌, ◌*◌, ◌≤◌}
+use mathlib.Core.Path.{refl, ap, ◌∙◌}
+use Prim.Native.Nat.{ℕ, ◌+◌, ◌*◌, ◌≤◌}
 use native.Mathlib.Omega.{arith}
 use lib.ListN.{length, drop}
 use mathlib.Core.List.{List}
@@ -11,7 +10,6 @@ use Rattle.format.proofs.Sizes.{times-next}
 use Rattle.xor.specs.Xors.{xors, add_all}
 use Rattle.xor.proofs.Lists.{length-xors}
 use Rattle.stripe.specs.Tables.{span}
-use Rattle.stripe.specs.Stripes.{others_data}
 use Rattle.stripe.proofs.Rows.{member_rows, row_whole, row_turn, row_skip, row_done, lent-span}
 use borrow.Author.Rules.{rules}
 use Rattle.stripe.proofs.row.Goals as goal

@@ -1,19 +1,13 @@
 -- `stripe::row` meets its contract. The invariant: the rows of the members still to come, added to the row now, give the row due.
 -- Assumes nothing.
-use mathlib.Core.Path.{◌≡◌, refl, sym, ap, ◌∙◌}
-use mathlib.Core.Logic.{⊎_elim}
-use Prim.Native.Nat.{ℕ, ◌+◌, ◌-◌, ◌*◌, ◌≤◌}
-use native.Mathlib.Omega.{arith}
+use mathlib.Core.Path.{◌≡◌}
+use Prim.Native.Nat.{◌-◌, ◌≤◌}
 use lib.ListN.{length, drop}
-use mathlib.Core.List.{List}
 use Rattle.format.specs.Methods.{format_of}
-use Rattle.format.proofs.Sizes.{times-next}
-use Rattle.xor.specs.Xors.{xors, add_all}
-use Rattle.xor.proofs.Lists.{length-xors}
+use Rattle.xor.specs.Xors.{add_all}
 use Rattle.stripe.specs.Tables.{span}
 use Rattle.stripe.specs.Stripes.{others_data}
-use Rattle.stripe.proofs.Rows.{member_rows, row_whole, row_turn, row_skip, row_done, lent-span}
-use borrow.Author.Rules.{rules}
+use Rattle.stripe.proofs.Rows.{member_rows}
 use Rattle.stripe.proofs.row.Given as goal
 
 abbrev pub invariant-loop-member : goal.invariant-loop-member

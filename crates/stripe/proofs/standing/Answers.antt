@@ -3,11 +3,9 @@
 use mathlib.Core.Path.{ap, ◌∙◌}
 use native.Mathlib.Omega.{arith}
 use Rattle.format.specs.Formats.{guard}
-use Rattle.layout.proofs.Ranges.{place_sound, sound_stripe}
 use Rattle.tag.specs.Blocks.{format_at}
 use Rattle.stripe.proofs.Checked.{stands-there}
 use Rattle.stripe.proofs.Served.{lent_data}
-use borrow.Author.Rules.{rules}
 use Rattle.stripe.proofs.standing.Goals as goal
 
 pub overflow_add-end : goal.overflow_add-end

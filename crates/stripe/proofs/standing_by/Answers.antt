@@ -3,7 +3,6 @@ use mathlib.Core.Path.{refl, ◌∙◌}
 use Rattle.layout.proofs.Seats.{beside_owner}
 use Rattle.tag.proofs.Owed.{expected-told}
 use Rattle.stripe.proofs.Checked.{standing_by_steps}
-use borrow.Author.Rules.{rules}
 use Rattle.stripe.proofs.standing_by.Goals as goal
 
 pub returns : goal.returns

@@ -4,7 +4,6 @@ use Prim.Native.Nat.{ℕ, ◌+◌}
 use native.Mathlib.Omega.{arith}
 use Rattle.format.specs.Methods.{format_of}
 use Rattle.stripe.proofs.Checked.{stored_there}
-use borrow.Author.Rules.{rules}
 use Rattle.stripe.proofs.stored.Goals as goal
 
 pub overflow_add-at : goal.overflow_add-at

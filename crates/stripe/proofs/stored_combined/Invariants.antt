@@ -1,17 +1,13 @@
 -- `stripe::stored_combined` meets its contract. The invariant: what was combined so far, with the guards of the members still to come, gives what is
 -- due. Assumes nothing.
-use mathlib.Core.Path.{◌≡◌, refl, sym, ap, ap₂, ◌∙◌}
-use mathlib.Core.Logic.{⊎_elim}
-use Prim.Native.Nat.{ℕ, ◌+◌, ◌-◌, ◌*◌, ◌≤◌}
-use native.Mathlib.Omega.{arith}
+use mathlib.Core.Path.{◌≡◌}
+use Prim.Native.Nat.{◌-◌, ◌≤◌}
 use lib.Bits.{bit_xor}
-use lib.ListN.{length, drop}
+use lib.ListN.{drop}
 use Rattle.format.specs.Methods.{format_of}
-use Rattle.format.proofs.Sizes.{times-next}
 use Rattle.verdict.specs.Verdicts.{combined_guards}
 use Rattle.stripe.specs.Stripes.{others_guards}
-use Rattle.stripe.proofs.Carried.{walked, guards_whole, guards-taken, guards-passed, guards-done}
-use borrow.Author.Rules.{rules}
+use Rattle.stripe.proofs.Carried.{walked}
 use Rattle.stripe.proofs.stored_combined.Given as goal
 
 abbrev pub invariant-loop-member : goal.invariant-loop-member

@@ -1,7 +1,6 @@
 -- `stripe::stored_guard` meets its contract. Assumes nothing.
 use mathlib.Core.Path.{ap}
 use Rattle.tag.specs.declared.Fields.{Fields}
-use borrow.Author.Rules.{rules}
 use Rattle.stripe.proofs.stored_guard.Goals as goal
 
 pub returns : goal.returns

@@ -6,7 +6,6 @@ use native.Mathlib.Omega.{arith}
 use lib.ListN.{length}
 use lib.Seq.{sets, length-sets}
 use Rattle.stripe.proofs.Blocks.{data_then_tag}
-use borrow.Author.Rules.{rules}
 use Rattle.stripe.proofs.write_block.Goals as goal
 
 pub write_tag-requires : goal.write_tag-requires

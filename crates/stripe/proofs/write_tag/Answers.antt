@@ -7,7 +7,6 @@ use Rattle.tag.specs.Blocks.{format_at}
 use Rattle.layout.proofs.Seats.{beside_owner}
 use Rattle.tag.proofs.Owed.{due-told}
 use Rattle.stripe.proofs.Blocks.{tag_in_place}
-use borrow.Author.Rules.{rules}
 use Rattle.stripe.proofs.write_tag.Goals as goal
 
 pub overflow_add-to : goal.overflow_add-to

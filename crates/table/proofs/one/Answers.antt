@@ -4,7 +4,6 @@ use mathlib.Core.Path.{ap}
 use Prim.Native.Nat.{◌*◌, ◌%◌}
 use lib.Bits.{bit_xor}
 use Rattle.table.specs.Tables.{look_one}
-use borrow.Author.Rules.{rules}
 use Rattle.table.proofs.one.Goals as goal
 
 pub returns : goal.returns

@@ -3,7 +3,6 @@
 use mathlib.Core.Path.{ap₂}
 use lib.Bits.{bit_xor}
 use Rattle.table.specs.Tables.{look_two}
-use borrow.Author.Rules.{rules}
 use Rattle.table.proofs.two.Goals as goal
 
 pub returns : goal.returns

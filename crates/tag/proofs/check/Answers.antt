@@ -9,7 +9,6 @@ use Rattle.tag.specs.Blocks.{format_at}
 use Rattle.tag.proofs.Checks.{check_sound, check_refused, check_by_steps}
 use Rattle.tag.proofs.Owed.{expected-told}
 use Rattle.tag.proofs.Within.{found_by_calls}
-use borrow.Author.Rules.{rules}
 use Rattle.tag.proofs.check.Goals as goal
 
 pub returns-then-refusal-ne0 : goal.returns-then-refusal-ne0

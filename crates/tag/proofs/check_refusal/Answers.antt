@@ -2,7 +2,6 @@
 -- Assumes nothing.
 use mathlib.Core.Path.{sym, ◌∙◌}
 use Rattle.tag.proofs.Checks.{sound_check, place_refused, length_refused}
-use borrow.Author.Rules.{rules}
 use Rattle.tag.proofs.check_refusal.Goals as goal
 
 pub returns-then-refusal-ne0 : goal.returns-then-refusal-ne0

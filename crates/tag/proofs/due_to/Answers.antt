@@ -2,7 +2,6 @@
 use mathlib.Core.Path.{sym, ap, ap₂, ◌∙◌}
 use Prim.Native.Nat.{ℕ}
 use Rattle.tag.specs.Tags.{due_to}
-use borrow.Author.Rules.{rules}
 use Rattle.tag.proofs.due_to.Goals as goal
 
 pub returns-in-Refused : goal.returns-in-Refused

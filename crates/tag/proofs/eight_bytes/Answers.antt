@@ -1,6 +1,5 @@
 -- `tag::eight_bytes` meets its contract. Assumes nothing.
 use Rattle.tag.proofs.Numbers.{eight}
-use borrow.Author.Rules.{rules}
 use Rattle.tag.proofs.eight_bytes.Goals as goal
 
 pub returns : goal.returns

@@ -2,7 +2,6 @@
 use mathlib.Core.Path.{ap, ◌∙◌}
 use Prim.Native.Nat.{ℕ}
 use Rattle.tag.specs.Tags.{due_to}
-use borrow.Author.Rules.{rules}
 use Rattle.tag.proofs.expected_to.Goals as goal
 
 pub returns : goal.returns

@@ -1,8 +1,7 @@
 -- `tag::faults` is `faults`. Assumes nothing.
-use mathlib.Core.Path.{ap₂, ◌∙◌, ap}
+use mathlib.Core.Path.{ap₂}
 use Prim.Native.Nat.{ℕ, ◌+◌}
 use native.Mathlib.Omega.{arith}
-use borrow.Author.Rules.{rules}
 use Rattle.tag.specs.Tags.{faults}
 use Rattle.tag.proofs.faults.Goals as goal
 

@@ -1,9 +1,8 @@
 -- `tag::fields_at` meets its contract. Assumes nothing.
-use mathlib.Core.Path.{◌≡◌, sym, ap, ◌∙◌}
+use mathlib.Core.Path.{sym, ap, ◌∙◌}
 use Prim.Native.Nat.{ℕ, ◌+◌, ◌*◌}
 use lib.ListN.{take, drop}
 use Rattle.tag.specs.Numbers.{number_of}
-use borrow.Author.Rules.{rules}
 use Rattle.tag.proofs.fields_at.Goals as goal
 
 pub returns-then-quarter-eq2 : goal.returns-then-quarter-eq2

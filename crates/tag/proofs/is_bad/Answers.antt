@@ -1,8 +1,5 @@
 -- `tag::is_bad` is `is_bad`. Assumes nothing.
-use mathlib.Core.Path.{sym, ap, ◌∙◌}
-use Prim.Native.Nat.{ℕ}
-use native.Mathlib.Omega.{arith}
-use borrow.Author.Tests.{le-leb}
+use mathlib.Core.Path.{sym, ap}
 use Rattle.tag.specs.Tags.{is_bad}
 use Rattle.tag.proofs.Cases.{bad-below}
 use Rattle.tag.proofs.is_bad.Goals as goal

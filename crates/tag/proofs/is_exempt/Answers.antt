@@ -1,7 +1,6 @@
 -- `is_exempt` is `exempt`. Assumes nothing.
 use mathlib.Core.Path.{ap}
 use Prim.Native.Nat.{ℕ}
-use borrow.Author.Rules.{rules}
 use lib.Dec.{eqb}
 use Rattle.tag.specs.Tags.{exempt}
 use Rattle.tag.proofs.is_exempt.Goals as goal

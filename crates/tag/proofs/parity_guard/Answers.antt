@@ -1,6 +1,5 @@
 -- `tag::parity_guard` meets its contract. Assumes nothing.
 use mathlib.Core.Path.{sym, ◌∙◌}
-use borrow.Author.Rules.{rules}
 use Rattle.tag.proofs.parity_guard.Goals as goal
 
 pub returns-then-carries : goal.returns-then-carries

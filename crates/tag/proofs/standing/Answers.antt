@@ -1,6 +1,5 @@
 -- `tag::standing` is `standing`. Assumes nothing.
 use mathlib.Core.Path.{sym, ◌∙◌}
-use borrow.Author.Rules.{rules}
 use Rattle.tag.proofs.Cases.{standing-exempt, standing-faults}
 use Rattle.tag.proofs.standing.Goals as goal
 

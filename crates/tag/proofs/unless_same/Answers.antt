@@ -1,5 +1,4 @@
 -- `unless_same` meets its contract. Assumes nothing.
-use mathlib.Core.Path.{sym}
 use native.Mathlib.Omega.{arith}
 use borrow.Author.Tests.{eq-eqb, ne_eqb}
 use Rattle.tag.proofs.unless_same.Goals as goal

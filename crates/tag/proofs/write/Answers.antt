@@ -1,6 +1,5 @@
 -- `tag::write` meets its contract. Assumes nothing.
 use Rattle.tag.proofs.Within.{written-at-once, written_by_fields}
-use borrow.Author.Rules.{rules}
 use Rattle.tag.proofs.write.Goals as goal
 
 pub returns-then-quarter-eq2 : goal.returns-then-quarter-eq2

@@ -1,11 +1,10 @@
 -- `verdict::all_zero` meets its contract. The invariant: the greatest so far and that of the bytes still to come make the greatest of all.
 -- Assumes nothing.
-use mathlib.Core.Path.{◌≡◌, sym, ap, ◌∙◌}
-use Prim.Native.Nat.{ℕ, ◌-◌, ◌≤◌, ◌<◌, max}
+use mathlib.Core.Path.{ap, ◌∙◌}
+use Prim.Native.Nat.{ℕ, ◌<◌}
 use native.Mathlib.Omega.{arith}
-use borrow.Author.Rules.{rules}
 use lib.Dec.{eqb}
-use lib.ListN.{length, drop}
+use lib.ListN.{length}
 use Rattle.verdict.proofs.Greatest.{greatest, greatest-zero, greatest-next, greatest_end}
 use Rattle.verdict.proofs.all_zero.Goals as goal
 

@@ -1,12 +1,9 @@
 -- `verdict::all_zero` meets its contract. The invariant: the greatest so far and that of the bytes still to come make the greatest of all.
 -- Assumes nothing.
-use mathlib.Core.Path.{◌≡◌, sym, ap, ◌∙◌}
-use Prim.Native.Nat.{ℕ, ◌-◌, ◌≤◌, ◌<◌, max}
-use native.Mathlib.Omega.{arith}
-use borrow.Author.Rules.{rules}
-use lib.Dec.{eqb}
+use mathlib.Core.Path.{◌≡◌}
+use Prim.Native.Nat.{◌-◌, ◌≤◌, max}
 use lib.ListN.{length, drop}
-use Rattle.verdict.proofs.Greatest.{greatest, greatest-zero, greatest-next, greatest_end}
+use Rattle.verdict.proofs.Greatest.{greatest}
 use Rattle.verdict.proofs.all_zero.Given as goal
 
 abbrev pub invariant-loop-i : goal.invariant-loop-i

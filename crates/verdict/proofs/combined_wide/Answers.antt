@@ -1,12 +1,7 @@
 -- `verdict::combined_wide` meets its contract. The invariant: the guards still to come, added to what is combined now, give what all give.
 -- Assumes nothing.
-use mathlib.Core.Path.{◌≡◌, refl, ◌∙◌}
-use Prim.Native.Nat.{◌-◌, ◌≤◌}
+use mathlib.Core.Path.{refl, ◌∙◌}
 use native.Mathlib.Omega.{arith}
-use borrow.Author.Rules.{rules}
-use lib.Bits.{bit_xor}
-use lib.ListN.{length, drop}
-use Rattle.verdict.specs.Verdicts.{combined_guards}
 use Rattle.verdict.proofs.Quick.{guards-turn, guards_end}
 use Rattle.verdict.proofs.combined_wide.Goals as goal
 

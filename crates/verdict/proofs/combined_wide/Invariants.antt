@@ -1,13 +1,10 @@
 -- `verdict::combined_wide` meets its contract. The invariant: the guards still to come, added to what is combined now, give what all give.
 -- Assumes nothing.
-use mathlib.Core.Path.{◌≡◌, refl, ◌∙◌}
+use mathlib.Core.Path.{◌≡◌}
 use Prim.Native.Nat.{◌-◌, ◌≤◌}
-use native.Mathlib.Omega.{arith}
-use borrow.Author.Rules.{rules}
 use lib.Bits.{bit_xor}
 use lib.ListN.{length, drop}
 use Rattle.verdict.specs.Verdicts.{combined_guards}
-use Rattle.verdict.proofs.Quick.{guards-turn, guards_end}
 use Rattle.verdict.proofs.combined_wide.Given as goal
 
 abbrev pub invariant-loop-next : goal.invariant-loop-next

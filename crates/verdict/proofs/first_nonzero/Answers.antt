@@ -2,12 +2,9 @@
 -- Assumes nothing.
 use mathlib.Core.Path.{◌≡◌, sym, ap, ◌∙◌}
 use mathlib.Core.Bool.{not}
-use Prim.Native.Nat.{◌+◌, ◌-◌, ◌≤◌}
 use native.Mathlib.Omega.{arith}
-use borrow.Author.Rules.{rules}
 use borrow.Author.Tests.{eq-eqb, ne_eqb, eqb-true}
-use lib.ListN.{length, drop}
-use Rattle.verdict.specs.Verdicts.{count, lowest, nonzero}
+use Rattle.verdict.specs.Verdicts.{count, nonzero}
 use Rattle.verdict.proofs.Flags.{lowest-none, lowest_miss, lowest_hit, lowest_end}
 use Rattle.verdict.proofs.Verdicts.{length-nonzero, nonzero-at}
 use Rattle.verdict.proofs.first_nonzero.Goals as goal

@@ -1,15 +1,9 @@
 -- `verdict::first_nonzero` meets its contract. The invariant: the first place that is not zero is the first of those still to come.
 -- Assumes nothing.
-use mathlib.Core.Path.{◌≡◌, sym, ap, ◌∙◌}
-use mathlib.Core.Bool.{not}
+use mathlib.Core.Path.{◌≡◌}
 use Prim.Native.Nat.{◌+◌, ◌-◌, ◌≤◌}
-use native.Mathlib.Omega.{arith}
-use borrow.Author.Rules.{rules}
-use borrow.Author.Tests.{eq-eqb, ne_eqb, eqb-true}
 use lib.ListN.{length, drop}
-use Rattle.verdict.specs.Verdicts.{count, lowest, nonzero}
-use Rattle.verdict.proofs.Flags.{lowest-none, lowest_miss, lowest_hit, lowest_end}
-use Rattle.verdict.proofs.Verdicts.{length-nonzero, nonzero-at}
+use Rattle.verdict.specs.Verdicts.{lowest, nonzero}
 use Rattle.verdict.proofs.first_nonzero.Given as goal
 
 abbrev pub invariant-loop-place : goal.invariant-loop-place

@@ -1,7 +1,6 @@
 -- `verdict::judge` meets its contract. Assumes nothing.
 use mathlib.Core.Path.{◌∙◌}
 use Rattle.verdict.proofs.Behind.{judged-told}
-use borrow.Author.Rules.{rules}
 use Rattle.verdict.proofs.judge.Goals as goal
 
 pub returns : goal.returns

@@ -3,7 +3,6 @@
 use mathlib.Core.Path.{sym, ap, ◌∙◌}
 use mathlib.Core.List.{[], ◌∷◌}
 use Prim.Native.Nat.{ℕ}
-use borrow.Author.Rules.{rules}
 use Rattle.verdict.proofs.Quick.{quick_refused, quick_fits, quick_differs}
 use Rattle.verdict.proofs.quick_scrub.Goals as goal
 

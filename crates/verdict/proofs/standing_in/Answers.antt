@@ -1,12 +1,11 @@
 -- `verdict::standing_in` meets its contract. The invariant: what is found so far is what the members passed, from the highest down, give.
 -- Assumes nothing.
 use mathlib.Core.Path.{sym, ◌∙◌}
-use Prim.Native.Nat.{ℕ, ◌-◌, ◌<◌}
+use Prim.Native.Nat.{◌-◌, ◌<◌}
 use native.Mathlib.Omega.{arith}
-use borrow.Author.Rules.{rules}
 use lib.ListN.{length, drop, length-drop}
 use Rattle.verdict.specs.Verdicts.{standing_in}
-use Rattle.verdict.proofs.Flags.{Passed, none_passed, passed_true, passed_false, passed-all, count_most}
+use Rattle.verdict.proofs.Flags.{none_passed, passed_true, passed_false, passed-all, count_most}
 use Rattle.verdict.proofs.Verdicts.{length-standing_in, standing_in-at}
 use Rattle.verdict.proofs.standing_in.Goals as goal
 

@@ -1,13 +1,7 @@
 -- `verdict::standing_in` meets its contract. The invariant: what is found so far is what the members passed, from the highest down, give.
 -- Assumes nothing.
-use mathlib.Core.Path.{sym, ◌∙◌}
-use Prim.Native.Nat.{ℕ, ◌-◌, ◌<◌}
-use native.Mathlib.Omega.{arith}
-use borrow.Author.Rules.{rules}
-use lib.ListN.{length, drop, length-drop}
 use Rattle.verdict.specs.Verdicts.{standing_in}
-use Rattle.verdict.proofs.Flags.{Passed, none_passed, passed_true, passed_false, passed-all, count_most}
-use Rattle.verdict.proofs.Verdicts.{length-standing_in, standing_in-at}
+use Rattle.verdict.proofs.Flags.{Passed}
 use Rattle.verdict.proofs.standing_in.Given as goal
 
 abbrev pub invariant-loop-member : goal.invariant-loop-member

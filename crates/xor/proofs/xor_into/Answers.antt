@@ -1,13 +1,9 @@
 -- `xor::xor_into` meets its contract. The invariant: what is done, followed by what is left to add, is the whole sum.
 -- Assumes nothing.
-use mathlib.Core.Path.{◌≡◌, refl, sym, ◌∙◌}
-use mathlib.Core.List.{◌++◌}
-use Prim.Native.Nat.{◌-◌, ◌≤◌, min}
+use mathlib.Core.Path.{sym, ◌∙◌}
 use native.Mathlib.Omega.{arith}
-use lib.ListN.{length, take, drop, length-set}
-use Rattle.xor.specs.Xors.{xors}
+use lib.ListN.{length-set}
 use Rattle.xor.proofs.Lists.{xors-turn, xors_end}
-use borrow.Author.Rules.{rules}
 use Rattle.xor.proofs.xor_into.Goals as goal
 
 pub loop-i-preserved : goal.loop-i-preserved

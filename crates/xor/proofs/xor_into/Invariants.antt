@@ -1,13 +1,10 @@
 -- `xor::xor_into` meets its contract. The invariant: what is done, followed by what is left to add, is the whole sum.
 -- Assumes nothing.
-use mathlib.Core.Path.{◌≡◌, refl, sym, ◌∙◌}
+use mathlib.Core.Path.{◌≡◌}
 use mathlib.Core.List.{◌++◌}
-use Prim.Native.Nat.{◌-◌, ◌≤◌, min}
-use native.Mathlib.Omega.{arith}
-use lib.ListN.{length, take, drop, length-set}
+use Prim.Native.Nat.{◌-◌, min}
+use lib.ListN.{length, take, drop}
 use Rattle.xor.specs.Xors.{xors}
-use Rattle.xor.proofs.Lists.{xors-turn, xors_end}
-use borrow.Author.Rules.{rules}
 use Rattle.xor.proofs.xor_into.Given as goal
 
 abbrev pub invariant-loop-i : goal.invariant-loop-i

@@ -3,7 +3,6 @@
 use mathlib.Core.Path.{ap, ◌∙◌}
 use Prim.Native.Nat.{ℕ}
 use Rattle.castagnoli.specs.Castagnoli.{advance, guard_of, crc32c}
-use borrow.Author.Rules.{rules}
 use Rattle.castagnoli_fold.proofs.calls.crc32c.Goals as goal
 
 pub returns : goal.returns

@@ -1,7 +1,6 @@
 -- `castagnoli_fold::calls::lead` meets its contract.
 -- Assumes nothing.
 use Rattle.castagnoli_fold.proofs.Leads.{led}
-use borrow.Author.Rules.{rules}
 use Rattle.castagnoli_fold.proofs.calls.lead.Goals as goal
 
 pub returns : goal.returns

@@ -4,7 +4,6 @@ use mathlib.Core.Path.{ap₂, ◌∙◌}
 use native.Mathlib.Omega.{arith}
 use Prim.Native.Nat.{ℕ, ◌+◌, ◌*◌}
 use Rattle.castagnoli_rows.proofs.Reading.{little-more}
-use borrow.Author.Rules.{rules}
 use Rattle.castagnoli_rows.proofs.rows.four.Goals as goal
 
 pub returns : goal.returns

@@ -3,7 +3,6 @@
 use mathlib.Core.Path.{ap₂, ◌∙◌}
 use Rattle.castagnoli_words.specs.Words.{after}
 use Rattle.castagnoli_rows.specs.Reading.{column}
-use borrow.Author.Rules.{rules}
 use Rattle.castagnoli_rows.proofs.rows.lane.Goals as goal
 
 pub returns : goal.returns

@@ -1,13 +1,10 @@
 -- `castagnoli_rows::rows::lanes` meets its contract. The invariant: the lanes that are stored so far.
 -- Assumes nothing.
-use mathlib.Core.Path.{◌≡◌, ◌∙◌}
+use mathlib.Core.Path.{◌≡◌}
 use Prim.Native.Nat.{ℕ, ◌-◌, ◌*◌, ◌≤◌, ◌<◌}
-use native.Mathlib.Omega.{arith}
-use lib.ListN.{length, get_or, length-set}
+use lib.ListN.{length, get_or}
 use Rattle.castagnoli_words.specs.Words.{rest}
 use Rattle.castagnoli_rows.specs.Reading.{column}
-use Rattle.castagnoli_rows.proofs.Puts.{set_more}
-use borrow.Author.Rules.{rules}
 use Rattle.castagnoli_rows.proofs.rows.lanes.Given as goal
 
 abbrev pub invariant-loop-l : goal.invariant-loop-l

@@ -3,7 +3,6 @@
 use native.Mathlib.Omega.{arith}
 use Prim.Native.Nat.{◌+◌}
 use Rattle.castagnoli_rows.proofs.Reading.{little_two}
-use borrow.Author.Rules.{rules}
 use Rattle.castagnoli_rows.proofs.rows.two.Goals as goal
 
 pub overflow_cast-result : goal.overflow_cast-result

@@ -2,7 +2,6 @@
 use mathlib.Core.Path.{sym, ap, ◌∙◌}
 use mathlib.Core.List.{[], ◌∷◌}
 use Prim.Native.Nat.{ℕ}
-use borrow.Author.Rules.{rules}
 use Rattle.checksum.proofs.Even.{sum_even, sum_odd}
 use Rattle.checksum.proofs.asked.sum.Goals as goal
 

@@ -5,7 +5,6 @@ use native.Mathlib.Omega.{arith}
 use lib.ListN.{length, take, drop}
 use Rattle.checksum.specs.Machine.{register_of, advance}
 use Rattle.checksum.proofs.Joined.{advance-parity, advance-empty, advance-first}
-use borrow.Author.Rules.{rules}
 use Rattle.checksum.proofs.machine.advance.Goals as goal
 
 pub returns-then-at-eq0 : goal.returns-then-at-eq0

@@ -1,12 +1,11 @@
 -- `checksum::machine::by_words` meets its contract. The invariant: what is left, from the register now, gives what all gives from the first.
 -- Assumes nothing.
-use mathlib.Core.Path.{◌≡◌, refl, ap, ◌∙◌}
-use Prim.Native.Nat.{ℕ, ◌+◌, ◌-◌, ◌%◌, ◌≤◌}
+use mathlib.Core.Path.{refl, ap, ◌∙◌}
+use Prim.Native.Nat.{ℕ, ◌+◌}
 use native.Mathlib.Omega.{arith}
-use lib.ListN.{length, drop}
+use lib.ListN.{drop}
 use Rattle.checksum.specs.Machine.{register_of, advance}
 use Rattle.checksum.proofs.Joined.{advance-turn, advance-last, advance-none}
-use borrow.Author.Rules.{rules}
 use Rattle.checksum.proofs.machine.by_words.Goals as goal
 
 pub loop-i-init : goal.loop-i-init

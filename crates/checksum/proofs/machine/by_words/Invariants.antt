@@ -1,12 +1,9 @@
 -- `checksum::machine::by_words` meets its contract. The invariant: what is left, from the register now, gives what all gives from the first.
 -- Assumes nothing.
-use mathlib.Core.Path.{◌≡◌, refl, ap, ◌∙◌}
-use Prim.Native.Nat.{ℕ, ◌+◌, ◌-◌, ◌%◌, ◌≤◌}
-use native.Mathlib.Omega.{arith}
+use mathlib.Core.Path.{◌≡◌}
+use Prim.Native.Nat.{◌-◌, ◌%◌, ◌≤◌}
 use lib.ListN.{length, drop}
 use Rattle.checksum.specs.Machine.{register_of, advance}
-use Rattle.checksum.proofs.Joined.{advance-turn, advance-last, advance-none}
-use borrow.Author.Rules.{rules}
 use Rattle.checksum.proofs.machine.by_words.Given as goal
 
 abbrev pub invariant-loop-i : goal.invariant-loop-i

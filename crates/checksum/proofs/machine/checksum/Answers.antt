@@ -3,7 +3,6 @@ use mathlib.Core.Path.{ap, ◌∙◌}
 use Rattle.checksum.specs.Checksum.{checksum}
 use Rattle.checksum.specs.declared.Register.{Register}
 use Rattle.checksum.proofs.Joined.{guard-checksum}
-use borrow.Author.Rules.{rules}
 use Rattle.checksum.proofs.machine.checksum.Goals as goal
 
 pub returns-then-bytes-eq512 : goal.returns-then-bytes-eq512

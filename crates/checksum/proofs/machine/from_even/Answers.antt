@@ -1,14 +1,10 @@
 -- `checksum::machine::from_even` meets its contract. The invariant of both loops: what is left, from the register now, gives what all gives from
 -- the first. Assumes nothing.
-use mathlib.Core.Path.{◌≡◌, refl, sym, ap, ◌∙◌}
-use mathlib.Core.List.{List}
-use Prim.Native.Nat.{ℕ, ◌-◌, ◌%◌, ◌≤◌}
+use mathlib.Core.Path.{refl, sym, ap, ◌∙◌}
 use native.Mathlib.Omega.{arith}
-use lib.ListN.{length, drop}
+use lib.ListN.{drop}
 use Rattle.checksum.specs.Machine.{register_of, advance}
 use Rattle.checksum.proofs.Joined.{advance-part, advance-parity, left_over}
-use borrow.Author.Rules.{rules}
-use Rattle.checksum.proofs.machine.from_even.Invariants.{Left}
 use Rattle.checksum.proofs.machine.from_even.Goals as goal
 
 pub loop-i-init : goal.loop-i-init

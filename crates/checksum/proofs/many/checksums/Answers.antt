@@ -1,14 +1,10 @@
 -- `checksum::many::checksums` meets its contract. The invariant: the checksums found, and those of the runs still to come, are all.
 -- Assumes nothing.
-use mathlib.Core.Path.{◌≡◌, refl, sym, ap, ◌∙◌}
-use mathlib.Core.List.{◌++◌}
-use Prim.Native.Nat.{◌-◌, ◌≤◌}
+use mathlib.Core.Path.{refl, sym, ap, ◌∙◌}
 use native.Mathlib.Omega.{arith}
-use lib.ListN.{length, take, drop, replicate, length-set}
-use Rattle.checksum.specs.Checksum.{first, checksum}
-use Rattle.checksum.specs.Many.{checksums_of}
+use lib.ListN.{length, drop, length-set}
+use Rattle.checksum.specs.Checksum.{checksum}
 use Rattle.checksum.proofs.Strides.{run_at, checksums_turn, checksums_end, rest-turn, rest_end, step_within}
-use borrow.Author.Rules.{rules}
 use Rattle.checksum.proofs.many.checksums.Goals as goal
 
 pub loop-m-init : goal.loop-m-init

@@ -8,7 +8,6 @@ use lib.Seq.{length-take-le}
 use Rattle.crc.specs.Guard.{run}
 use Rattle.words.specs.Words.{rest}
 use Rattle.words.specs.Steps.{quad}
-use Rattle.fold.specs.Columns.{Come}
 use Rattle.fold.proofs.Blocks.{block}
 use Rattle.fold.proofs.Stored.{length-put, behind, put-more}
 use borrow.Author.Rules.{rules}

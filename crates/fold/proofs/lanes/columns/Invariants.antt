@@ -1,17 +1,9 @@
 -- `fold::lanes::columns` meets its contract. The invariant: the lanes of the first k blocks are there.
 -- Assumes nothing.
-use mathlib.Core.Path.{◌≡◌, refl, ap, ◌∙◌}
-use Prim.Native.Nat.{ℕ, ◌+◌, ◌-◌, ◌*◌, ◌≤◌}
-use native.Mathlib.Omega.{arith}
-use lib.ListN.{length, get_or, take, drop, length-drop, length-set}
-use lib.Seq.{length-take-le}
-use Rattle.crc.specs.Guard.{run}
-use Rattle.words.specs.Words.{rest}
-use Rattle.words.specs.Steps.{quad}
+use mathlib.Core.Path.{◌≡◌}
+use Prim.Native.Nat.{ℕ, ◌-◌, ◌*◌, ◌≤◌}
+use lib.ListN.{length, get_or}
 use Rattle.fold.specs.Columns.{Come}
-use Rattle.fold.proofs.Blocks.{block}
-use Rattle.fold.proofs.Stored.{length-put, behind, put-more}
-use borrow.Author.Rules.{rules}
 use Rattle.fold.proofs.lanes.columns.Given as goal
 
 abbrev pub invariant-loop-k : goal.invariant-loop-k

@@ -8,7 +8,6 @@ use Rattle.fold.specs.Reading.{seen, piece}
 use Rattle.fold.specs.Columns.{four, nine}
 use Rattle.fold.proofs.Rows.{ordered}
 use Rattle.fold.proofs.Blocks.{seen_none}
-use borrow.Author.Rules.{rules}
 use Rattle.fold.proofs.lanes.lane_alone.Goals as goal
 
 pub returns : goal.returns

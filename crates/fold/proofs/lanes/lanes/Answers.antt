@@ -1,12 +1,12 @@
 -- `fold::lanes::lanes` meets its contract. The invariant: the first l lanes are there.
 -- Assumes nothing.
 use mathlib.Core.Path.{◌≡◌, ap₂, ◌∙◌}
-use Prim.Native.Nat.{ℕ, ◌+◌, ◌-◌, ◌*◌, ◌≤◌}
+use Prim.Native.Nat.{ℕ, ◌+◌, ◌*◌}
 use native.Mathlib.Omega.{arith}
-use lib.ListN.{length, length-set}
+use lib.ListN.{length-set}
 use lib.Bits.{bit_xor}
 use Rattle.words.specs.Words.{rest}
-use Rattle.fold.specs.Columns.{column, firstly, brought, nine, Laned}
+use Rattle.fold.specs.Columns.{column, firstly, brought, nine}
 use Rattle.fold.proofs.Stored.{set_more}
 use borrow.Author.Rules.{rules}
 use Rattle.fold.proofs.lanes.lanes.Goals as goal

@@ -79,6 +79,13 @@ fn of_wholes(bytes: &[u8], stride: usize, count: usize) -> [u16; 16]
     ends(joins(words))
 }
 
+// The guard of a run that is not whole. Many have no bytes.
+fn of_rest(bytes: &[u8]) -> u16
+    ensures { result ≡ guard bytes.now }
+{
+    if bytes.len() == 0 { 0 } else { guard(bytes) }
+}
+
 // The guards of sixteen runs of 512 bytes, each `stride` bytes after the one before. What lies past the end has no bytes, and its guard is 0.
 pub fn guards(bytes: &[u8], stride: usize) -> [u16; 16]
     ensures { result ≡ guards_of 16 stride bytes.now }
@@ -91,7 +98,7 @@ pub fn guards(bytes: &[u8], stride: usize) -> [u16; 16]
         if at == bytes.len() {
             return out;
         }
-        out[m] = guard(&bytes[at..]);
+        out[m] = of_rest(&bytes[at..]);
         at = further(at, stride, bytes.len());
         m += 1;
     }

@@ -1,6 +1,5 @@
 -- `format::packing::packed` meets its contract. Assumes nothing.
 use mathlib.Core.Path.{refl}
-use borrow.Author.Rules.{rules}
 use Rattle.format.specs.Packed.{packed}
 use Rattle.format.proofs.packing.packed.Goals as goal
 

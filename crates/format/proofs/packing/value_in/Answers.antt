@@ -1,5 +1,5 @@
 -- `format::value_in` meets its contract. Assumes nothing.
-use mathlib.Core.Path.{◌≡◌, sym}
+use mathlib.Core.Path.{sym}
 use Prim.Native.Nat.{◌<◌}
 use native.Mathlib.Nat.{mod-eq_of_lt}
 use Rattle.format.proofs.Laws.{two_bytes, four_bytes}

@@ -1,6 +1,6 @@
 -- `format::waiting_in` meets its contract. Assumes nothing.
-use mathlib.Core.Path.{◌≡◌, sym, ap}
-use Prim.Native.Nat.{ℕ, ◌/◌, ◌%◌, ◌<◌}
+use mathlib.Core.Path.{sym, ap}
+use Prim.Native.Nat.{ℕ, ◌%◌, ◌<◌}
 use native.Mathlib.Nat.{div-eq_of_lt}
 use Rattle.format.proofs.Laws.{two_bytes, four_bytes}
 use borrow.Author.Rules.{rules}

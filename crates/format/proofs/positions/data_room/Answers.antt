@@ -1,9 +1,7 @@
 -- `format::positions::data_room` meets its contract, by the part that the position is in. Assumes nothing.
 use mathlib.Core.Path.{sym, ap, ◌∙◌}
-use native.Mathlib.Omega.{arith}
 use Rattle.format.specs.Methods.{format_of}
 use Rattle.format.proofs.Ranges.{room_of, room_of_lem, data_place}
-use borrow.Author.Rules.{rules}
 use Rattle.format.proofs.positions.data_room.Goals as goal
 
 pub overflow_sub-result : goal.overflow_sub-result

@@ -1,9 +1,6 @@
 -- `format::positions::part_at_large` is `part_at`: each arm is its range. Assumes nothing.
-use mathlib.Core.Path.{◌≡◌, refl}
-use Prim.Native.Nat.{ℕ}
 use native.Mathlib.Omega.{arith}
 use borrow.Author.Tests.{lt-ltb, le-ltb}
-use Rattle.format.specs.Methods.{t10, format_of}
 use Rattle.format.specs.Positions.{part_at}
 use Rattle.format.proofs.positions.part_at_large.Goals as goal
 

@@ -3,7 +3,6 @@ use mathlib.Core.Path.{sym, ap, ◌∙◌}
 use native.Mathlib.Omega.{arith}
 use Rattle.format.specs.Methods.{format_of}
 use Rattle.format.proofs.Ranges.{tag_place_of, tag-place_of, place_small}
-use borrow.Author.Rules.{rules}
 use Rattle.format.proofs.positions.tag_place.Goals as goal
 
 pub overflow_add-result : goal.overflow_add-result

@@ -11,7 +11,6 @@ use Rattle.stripe.proofs.Scrubs.{scrub_sound}
 use Rattle.intent.specs.Records.{entries, many}
 use Rattle.intent.specs.Calls.{recover_refusal}
 use Rattle.intent.proofs.Calling.{recover_told, recovery_refused, recovery_absent, recovery_made}
-use borrow.Author.Rules.{rules}
 use Rattle.intent.proofs.recovering.recover.Goals as goal
 
 pub returns-then-refusal-ne0 : goal.returns-then-refusal-ne0
@@ -33,19 +32,19 @@ overflow_add-stripe c =
 pub returns-then-many-eq0 : goal.returns-then-many-eq0
 returns-then-many-eq0 c =
     let taken : let a = c.args in recover_refusal a.array a.stripe (length a.bytes.now) a.log.now ≡ 0 = sym c.recover_refusal-refusal.ensures ∙ c.if-refusal-ne0.false in
-    let named-are : let a = c.args in c.many.result ≡ many (a.stripe + 1) (entries a.log.now) = let a = c.args in
+    let named_are : let a = c.args in c.many.result ≡ many (a.stripe + 1) (entries a.log.now) = let a = c.args in
     c.many.ensures ∙ ap (many (a.stripe + 1)) c.entries_of-entries.ensures in
-    let a = c.args in let both = recovery_absent a.array a.stripe a.bytes.now a.log.now taken (sym named-are ∙ c.if-many-eq0.true) in record { result_value = both.0; bytes_after = both.1.0; log_after = both.1.1 }
+    let a = c.args in let both = recovery_absent a.array a.stripe a.bytes.now a.log.now taken (sym named_are ∙ c.if-many-eq0.true) in record { result_value = both.0; bytes_after = both.1.0; log_after = both.1.1 }
 
 pub remake-requires : goal.remake-requires
 remake-requires c =
     let taken : let a = c.args in recover_refusal a.array a.stripe (length a.bytes.now) a.log.now ≡ 0 = sym c.recover_refusal-refusal.ensures ∙ c.if-refusal-ne0.false in
     let inside : let a = c.args in SoundStripe a.array a.stripe = let a = c.args in
     stripe_sound a.array a.stripe (scrub_sound a.array a.stripe (length a.bytes.now) (recover_told a.array a.stripe (length a.bytes.now) a.log.now taken).0).0 in
-    let named-are : let a = c.args in c.many.result ≡ many (a.stripe + 1) (entries a.log.now) = let a = c.args in
+    let named_are : let a = c.args in c.many.result ≡ many (a.stripe + 1) (entries a.log.now) = let a = c.args in
     c.many.ensures ∙ ap (many (a.stripe + 1)) c.entries_of-entries.ensures in
     let there : let a = c.args in 0 < many (suc a.stripe) (entries a.log.now) = let a = c.args in
-    let some : many (suc a.stripe) (entries a.log.now) ≢ 0 = λ e. c.if-many-eq0.false (named-are ∙ ap (λ (k : ℕ). many k (entries a.log.now)) (add-one a.stripe) ∙ e) in
+    let some : many (suc a.stripe) (entries a.log.now) ≢ 0 = λ e. c.if-many-eq0.false (named_are ∙ ap (λ (k : ℕ). many k (entries a.log.now)) (add-one a.stripe) ∙ e) in
     omega arith in
     let a = c.args in
     let told = recover_told a.array a.stripe (length a.bytes.now) a.log.now taken in
@@ -59,9 +58,9 @@ remake-requires c =
 pub returns : goal.returns
 returns c =
     let taken : let a = c.args in recover_refusal a.array a.stripe (length a.bytes.now) a.log.now ≡ 0 = sym c.recover_refusal-refusal.ensures ∙ c.if-refusal-ne0.false in
-    let named-are : let a = c.args in c.many.result ≡ many (a.stripe + 1) (entries a.log.now) = let a = c.args in
+    let named_are : let a = c.args in c.many.result ≡ many (a.stripe + 1) (entries a.log.now) = let a = c.args in
     c.many.ensures ∙ ap (many (a.stripe + 1)) c.entries_of-entries.ensures in
     let there : let a = c.args in 0 < many (suc a.stripe) (entries a.log.now) = let a = c.args in
-    let some : many (suc a.stripe) (entries a.log.now) ≢ 0 = λ e. c.if-many-eq0.false (named-are ∙ ap (λ (k : ℕ). many k (entries a.log.now)) (add-one a.stripe) ∙ e) in
+    let some : many (suc a.stripe) (entries a.log.now) ≢ 0 = λ e. c.if-many-eq0.false (named_are ∙ ap (λ (k : ℕ). many k (entries a.log.now)) (add-one a.stripe) ∙ e) in
     omega arith in
     let a = c.args in let both = recovery_made a.array a.stripe a.bytes.now a.log.now taken _ _ _ there c.remake.ensures.result_value c.remake.ensures.bytes_after c.remake.ensures.log_after in record { result_value = both.0; bytes_after = both.1.0; log_after = both.1.1 }

@@ -1,10 +1,7 @@
 -- `intent::recovering::recover_refusal` meets its contract. Assumes nothing.
 use mathlib.Core.Path.{◌≡◌, sym, ap, ◌∙◌}
-use borrow.Author.Tests.{not-true, not-false}
-use lib.ListN.{length}
 use Rattle.intent.specs.Records.{entries, entries_fit}
 use Rattle.intent.proofs.Calling.{recover_place, recover_other_log, recover_by_log, log_unfit, log_fit}
-use borrow.Author.Rules.{rules}
 use Rattle.intent.proofs.recovering.recover_refusal.Goals as goal
 
 pub returns-then-refusal-ne0 : goal.returns-then-refusal-ne0
@@ -19,16 +16,16 @@ returns-then-log c =
 
 pub returns-then-not-entries_fit : goal.returns-then-not-entries_fit
 returns-then-not-entries_fit c =
-    let fits-as : let a = c.args in c.entries_fit.result ≡ entries_fit a.array.stripes (entries a.log.now) = let a = c.args in
+    let fits_as : let a = c.args in c.entries_fit.result ≡ entries_fit a.array.stripes (entries a.log.now) = let a = c.args in
     c.entries_fit.ensures ∙ ap (entries_fit a.array.stripes) c.entries_of-entries.ensures in
     let a = c.args in
-    log_unfit a.array a.log.now (sym fits-as ∙ c.if-not-entries_fit.true)
+    log_unfit a.array a.log.now (sym fits_as ∙ c.if-not-entries_fit.true)
     ∙ recover_by_log a.array a.stripe a.length a.log.now (sym c.scrub_refusal-refusal.ensures ∙ c.if-refusal-ne0.false) c.if-log.false
 
 pub returns : goal.returns
 returns c =
-    let fits-as : let a = c.args in c.entries_fit.result ≡ entries_fit a.array.stripes (entries a.log.now) = let a = c.args in
+    let fits_as : let a = c.args in c.entries_fit.result ≡ entries_fit a.array.stripes (entries a.log.now) = let a = c.args in
     c.entries_fit.ensures ∙ ap (entries_fit a.array.stripes) c.entries_of-entries.ensures in
     let a = c.args in
-    log_fit a.array a.log.now (sym fits-as ∙ c.if-not-entries_fit.false)
+    log_fit a.array a.log.now (sym fits_as ∙ c.if-not-entries_fit.false)
     ∙ recover_by_log a.array a.stripe a.length a.log.now (sym c.scrub_refusal-refusal.ensures ∙ c.if-refusal-ne0.false) c.if-log.false

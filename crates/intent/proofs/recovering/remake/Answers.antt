@@ -6,7 +6,6 @@ use native.Mathlib.Numerals.{add-one}
 use Rattle.stripe.specs.InPart.{first_amiss}
 use Rattle.intent.specs.Records.{written}
 use Rattle.intent.proofs.Calling.{remade-done, remade-not}
-use borrow.Author.Rules.{rules}
 use Rattle.intent.proofs.recovering.remake.Goals as goal
 
 pub returns-then-rebuild-ne0 : goal.returns-then-rebuild-ne0

@@ -3,7 +3,6 @@ use mathlib.Core.Path.{sym, ◌∙◌}
 use Rattle.layout.proofs.Ranges.{stripe_sound}
 use Rattle.stripe.proofs.Scrubs.{scrub_sound, sound_scrub}
 use Rattle.intent.proofs.Calling.{open_other_stripe, open_other_data, open_other_log, open_long}
-use borrow.Author.Rules.{rules}
 use Rattle.intent.proofs.updating.open_refusal.Goals as goal
 
 pub returns-then-scrub_refusal-ne0 : goal.returns-then-scrub_refusal-ne0

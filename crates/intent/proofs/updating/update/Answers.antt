@@ -3,7 +3,6 @@ use mathlib.Core.Path.{sym, ap, ◌∙◌}
 use Rattle.layout.specs.Places.{placed_numbers}
 use Rattle.stripe.proofs.Served.{placed_at}
 use Rattle.intent.proofs.Calling.{update_nowhere}
-use borrow.Author.Rules.{rules}
 use Rattle.intent.proofs.updating.update.Goals as goal
 
 pub update_in-requires : goal.update_in-requires

@@ -9,7 +9,6 @@ use Rattle.stripe.specs.InPart.{part_bytes}
 use Rattle.intent.specs.Calls.{open_refusal}
 use Rattle.intent.proofs.Logs.{own_sound}
 use Rattle.intent.proofs.Calling.{open_told, update-closed, update-damaged, update-stored}
-use borrow.Author.Rules.{rules}
 use Rattle.intent.proofs.updating.update_in.Goals as goal
 
 pub open_refusal-refusal-requires : goal.open_refusal-refusal-requires

@@ -9,7 +9,6 @@ use Rattle.intent.specs.Records.{written, entered, struck}
 use Rattle.intent.proofs.Counted.{length-written}
 use Rattle.intent.proofs.Logs.{entry_free, entered-there}
 use Rattle.intent.proofs.Calling.{none-stored, enter_stored, strike_stored}
-use borrow.Author.Rules.{rules}
 use Rattle.intent.proofs.updating.write_record.Goals as goal
 
 pub returns-then-stores-eq0 : goal.returns-then-stores-eq0

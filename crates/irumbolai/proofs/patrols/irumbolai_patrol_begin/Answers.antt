@@ -1,6 +1,5 @@
 -- `irumbolai_patrol_begin` answers what `begin` does. Assumes nothing.
 use mathlib.Core.Path.{◌∙◌}
-use borrow.Author.Rules.{rules}
 use Rattle.irumbolai.proofs.patrols.irumbolai_patrol_begin.Goals as goal
 
 pub returns : goal.returns

@@ -3,7 +3,6 @@ use mathlib.Core.Path.{sym, ap, ◌∙◌, subst}
 use mathlib.Core.List.{List}
 use Prim.Native.Nat.{ℕ}
 use native.Mathlib.Omega.{arith}
-use borrow.Author.Rules.{rules}
 use Rattle.irumbolai.specs.Answers.{unflagged, spread, stripe_answered}
 use Rattle.irumbolai.proofs.Verdicts.{Small}
 use Rattle.irumbolai.proofs.Behind.{request_small}

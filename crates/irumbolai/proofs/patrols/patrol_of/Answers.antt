@@ -1,5 +1,4 @@
 -- `patrol_of` holds what it is handed, the array's numbers as an array. Assumes nothing.
-use borrow.Author.Rules.{rules}
 use Rattle.irumbolai.proofs.patrols.patrol_of.Goals as goal
 
 pub returns : goal.returns

@@ -1,6 +1,5 @@
 -- `patrolled_answer` sets out what it is handed, case by case. Assumes nothing.
 use mathlib.Core.Path.{refl, sym, ◌∙◌}
-use borrow.Author.Rules.{rules}
 use Rattle.patrol.proofs.Injective.{apart}
 use Rattle.irumbolai.proofs.Behind.{unchanged}
 use Rattle.irumbolai.proofs.patrols.patrolled_answer.Goals as goal

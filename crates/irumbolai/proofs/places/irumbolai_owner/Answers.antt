@@ -1,6 +1,5 @@
 -- `irumbolai_owner` answers what `owner` does. Assumes nothing.
 use mathlib.Core.Path.{ap, ◌∙◌}
-use borrow.Author.Rules.{rules}
 use Rattle.irumbolai.specs.Answers.{unflagged}
 use Rattle.irumbolai.proofs.places.irumbolai_owner.Goals as goal
 

@@ -1,7 +1,6 @@
 -- `irumbolai_place` answers what `place` does. Assumes nothing.
 use mathlib.Core.Path.{ap, ◌∙◌}
 use native.Mathlib.Omega.{arith}
-use borrow.Author.Rules.{rules}
 use Rattle.irumbolai.specs.Answers.{unflagged}
 use Rattle.irumbolai.proofs.Members.{member_small}
 use Rattle.irumbolai.proofs.places.irumbolai_place.Goals as goal

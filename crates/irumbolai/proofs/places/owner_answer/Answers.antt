@@ -1,5 +1,4 @@
 -- `owner_answer` sets out what it is handed, case by case. Assumes nothing.
-use borrow.Author.Rules.{rules}
 use Rattle.irumbolai.proofs.places.owner_answer.Goals as goal
 
 pub returns-in-Refused : goal.returns-in-Refused

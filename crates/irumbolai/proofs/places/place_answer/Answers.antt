@@ -1,5 +1,4 @@
 -- `place_answer` sets out what it is handed, case by case. Assumes nothing.
-use borrow.Author.Rules.{rules}
 use native.Mathlib.Omega.{arith}
 use Rattle.irumbolai.proofs.places.place_answer.Goals as goal
 

@@ -6,7 +6,6 @@ use native.Mathlib.Omega.{arith}
 use lib.ListN.{get_or}
 use Rattle.intent.proofs.Rules.{recover_small}
 use Rattle.irumbolai.specs.Answers.{unflagged}
-use borrow.Author.Rules.{rules}
 use Rattle.irumbolai.proofs.records.irumbolai_recover.Goals as goal
 
 pub recovery_answer-requires : goal.recovery_answer-requires

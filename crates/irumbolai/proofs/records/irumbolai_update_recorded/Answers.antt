@@ -1,5 +1,4 @@
 -- `irumbolai_update_recorded` answers and leaves what `update` does. Assumes nothing.
-use borrow.Author.Rules.{rules}
 use Rattle.irumbolai.proofs.records.irumbolai_update_recorded.Goals as goal
 
 pub returns : goal.returns

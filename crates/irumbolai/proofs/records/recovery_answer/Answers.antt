@@ -1,6 +1,5 @@
 -- `recovery_answer` sets out what it is handed, case by case. Assumes nothing.
 use native.Mathlib.Omega.{arith}
-use borrow.Author.Rules.{rules}
 use Rattle.irumbolai.proofs.records.recovery_answer.Goals as goal
 
 pub overflow_cast-member : goal.overflow_cast-member

@@ -1,6 +1,5 @@
 -- `irumbolai_piece` answers and leaves what `piece` does. Assumes nothing.
 use mathlib.Core.Path.{◌∙◌}
-use borrow.Author.Rules.{rules}
 use Rattle.irumbolai.proofs.scans.irumbolai_piece.Goals as goal
 
 pub returns : goal.returns

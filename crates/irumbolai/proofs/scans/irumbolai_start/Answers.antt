@@ -1,6 +1,5 @@
 -- `irumbolai_start` answers and leaves what `start` does. Assumes nothing.
 use mathlib.Core.Path.{◌∙◌}
-use borrow.Author.Rules.{rules}
 use Rattle.irumbolai.proofs.scans.irumbolai_start.Goals as goal
 
 pub returns : goal.returns

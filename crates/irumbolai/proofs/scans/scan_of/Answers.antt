@@ -1,5 +1,4 @@
 -- `scan_of` holds what it is handed, the array's numbers as an array. Assumes nothing.
-use borrow.Author.Rules.{rules}
 use Rattle.irumbolai.proofs.scans.scan_of.Goals as goal
 
 pub returns : goal.returns

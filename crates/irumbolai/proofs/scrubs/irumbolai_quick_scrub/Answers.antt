@@ -1,6 +1,5 @@
 -- `irumbolai_quick_scrub` answers what `quick_scrub` does. Assumes nothing.
 use mathlib.Core.Path.{ap, ◌∙◌}
-use borrow.Author.Rules.{rules}
 use Rattle.irumbolai.specs.Answers.{unflagged}
 use Rattle.irumbolai.proofs.scrubs.irumbolai_quick_scrub.Goals as goal
 

@@ -1,6 +1,5 @@
 -- `irumbolai_quick_scrub_wide` answers what `quick_scrub_wide` does. Assumes nothing.
 use mathlib.Core.Path.{ap, ◌∙◌}
-use borrow.Author.Rules.{rules}
 use Rattle.irumbolai.specs.Answers.{unflagged}
 use Rattle.irumbolai.proofs.scrubs.irumbolai_quick_scrub_wide.Goals as goal
 

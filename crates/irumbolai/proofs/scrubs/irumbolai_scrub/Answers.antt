@@ -3,7 +3,6 @@ use mathlib.Core.Path.{sym, ap, ◌∙◌, subst}
 use mathlib.Core.List.{List}
 use Prim.Native.Nat.{ℕ}
 use native.Mathlib.Omega.{arith}
-use borrow.Author.Rules.{rules}
 use Rattle.irumbolai.specs.Answers.{unflagged, spread}
 use Rattle.irumbolai.proofs.Verdicts.{Small, scrub_small}
 use Rattle.irumbolai.proofs.scrubs.irumbolai_scrub.Goals as goal

@@ -1,5 +1,4 @@
 -- `check_answer` sets out what it is handed, case by case. Assumes nothing.
-use borrow.Author.Rules.{rules}
 use Rattle.irumbolai.proofs.stripes.check_answer.Goals as goal
 
 pub returns-in-Refused : goal.returns-in-Refused

@@ -1,6 +1,5 @@
 -- `irumbolai_check` answers what `check` does. Assumes nothing.
 use mathlib.Core.Path.{ap, ◌∙◌}
-use borrow.Author.Rules.{rules}
 use Rattle.irumbolai.specs.Answers.{unflagged}
 use Rattle.irumbolai.proofs.stripes.irumbolai_check.Goals as goal
 

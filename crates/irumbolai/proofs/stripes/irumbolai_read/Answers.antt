@@ -1,6 +1,5 @@
 -- `irumbolai_read` answers and leaves what `read` does. Assumes nothing.
 use mathlib.Core.Path.{ap, ◌∙◌}
-use borrow.Author.Rules.{rules}
 use Rattle.irumbolai.specs.Answers.{unflagged}
 use Rattle.irumbolai.proofs.stripes.irumbolai_read.Goals as goal
 

@@ -1,5 +1,4 @@
 -- `irumbolai_rebuild` answers and leaves what `rebuild` does. Assumes nothing.
-use borrow.Author.Rules.{rules}
 use Rattle.irumbolai.proofs.stripes.irumbolai_rebuild.Goals as goal
 
 pub returns : goal.returns

@@ -1,5 +1,4 @@
 -- `irumbolai_seal` answers and leaves what `seal` does. Assumes nothing.
-use borrow.Author.Rules.{rules}
 use Rattle.irumbolai.proofs.stripes.irumbolai_seal.Goals as goal
 
 pub returns : goal.returns

@@ -1,5 +1,4 @@
 -- `irumbolai_update` answers and leaves what `update` does. Assumes nothing.
-use borrow.Author.Rules.{rules}
 use Rattle.irumbolai.proofs.stripes.irumbolai_update.Goals as goal
 
 pub returns : goal.returns

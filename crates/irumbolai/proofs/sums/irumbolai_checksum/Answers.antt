@@ -1,6 +1,5 @@
 -- `irumbolai_checksum` answers what `sum` does. Assumes nothing.
 use mathlib.Core.Path.{ap, ◌∙◌}
-use borrow.Author.Rules.{rules}
 use Rattle.irumbolai.specs.Answers.{unflagged}
 use Rattle.irumbolai.proofs.sums.irumbolai_checksum.Goals as goal
 

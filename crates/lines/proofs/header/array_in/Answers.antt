@@ -1,7 +1,6 @@
 -- `lines::header::array_in` is `array_in`. Assumes nothing.
 use mathlib.Core.Path.{◌≡◌, ap, ◌∙◌}
 use native.Mathlib.Omega.{arith}
-use borrow.Author.Rules.{rules}
 use lib.ListN.{get_or}
 use Rattle.lines.specs.Headers.{form_of, array_in}
 use Rattle.lines.specs.declared.header.Form.{Form}

@@ -1,15 +1,8 @@
 -- `lines::header::number_in` meets its contract. The invariant: what is read so far is the number of the bytes so far. Assumes nothing.
-use mathlib.Core.Path.{◌≡◌, refl, sym, ap, ◌∙◌}
-use mathlib.Core.List.{List}
-use Prim.Native.Nat.{ℕ, ◌+◌, ◌-◌, ◌*◌, ◌≤◌, ◌<◌}
-use native.Mathlib.Omega.{arith}
-use borrow.Author.Rules.{rules}
-use mir.Val.{Fits}
-use mir.Syntax.{w8}
-use lib.ListN.{length, get_or, take, drop, length-take, length-drop}
-use lib.Seq.{get_or-drop}
+use mathlib.Core.Path.{◌≡◌}
+use Prim.Native.Nat.{◌-◌, ◌≤◌}
+use lib.ListN.{take, drop}
 use Rattle.tag.specs.Numbers.{number_of}
-use Rattle.tag.proofs.Numbers.{bytes_of_part, bytes_of_rest, number-room, number-turn}
 use Rattle.lines.proofs.header.number_in.Given as goal
 
 abbrev pub invariant-loop-i : goal.invariant-loop-i

@@ -1,7 +1,6 @@
 -- `repair::feeding::close` meets its contract. Assumes nothing.
 use Rattle.lines.proofs.Lines.{written-whole}
 use Rattle.repair.proofs.Doing.{no_room_to_close, closed_in_header, closed_in_stripes, closed_already, line_closes, no_line_closes}
-use borrow.Author.Rules.{rules}
 use Rattle.repair.proofs.feeding.close.Goals as goal
 
 pub returns-then-list-lt-ROOM : goal.returns-then-list-lt-ROOM

@@ -1,12 +1,9 @@
 -- `repair::feeding::feed` meets its contract. The invariant is `Filled`; each step that uses something leads on, and the one that uses nothing is
 -- the last. The measure is what is left of the input. Assumes nothing.
-use mathlib.Core.Path.{◌≡◌, refl}
-use Prim.Native.Nat.{◌-◌}
+use mathlib.Core.Path.{refl}
 use native.Mathlib.Omega.{arith}
 use borrow.Author.Rules.{rules}
-use lib.ListN.{length}
-use Rattle.repair.specs.Feeds.{feed_of}
-use Rattle.repair.proofs.Filled.{Filled, none_filled, used-within, written-within, listed-within, image-kept, list-kept, all_filled, more_filled}
+use Rattle.repair.proofs.Filled.{none_filled, used-within, written-within, listed-within, image-kept, list-kept, all_filled, more_filled}
 use Rattle.repair.proofs.feeding.feed.Goals as goal
 
 pub loop-used-init : goal.loop-used-init

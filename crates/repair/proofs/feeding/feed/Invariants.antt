@@ -1,12 +1,10 @@
 -- `repair::feeding::feed` meets its contract. The invariant is `Filled`; each step that uses something leads on, and the one that uses nothing is
 -- the last. The measure is what is left of the input. Assumes nothing.
-use mathlib.Core.Path.{◌≡◌, refl}
+use mathlib.Core.Path.{◌≡◌}
 use Prim.Native.Nat.{◌-◌}
-use native.Mathlib.Omega.{arith}
-use borrow.Author.Rules.{rules}
 use lib.ListN.{length}
 use Rattle.repair.specs.Feeds.{feed_of}
-use Rattle.repair.proofs.Filled.{Filled, none_filled, used-within, written-within, listed-within, image-kept, list-kept, all_filled, more_filled}
+use Rattle.repair.proofs.Filled.{Filled}
 use Rattle.repair.proofs.feeding.feed.Given as goal
 
 abbrev pub invariant-loop-used : goal.invariant-loop-used

@@ -2,7 +2,6 @@
 use mathlib.Core.Path.{◌∙◌, ap}
 use Rattle.layout.specs.declared.Array.{Array}
 use Rattle.repair.specs.Feeding.{entering, fresh_repair}
-use borrow.Author.Rules.{rules}
 use Rattle.repair.proofs.feeding.new.Goals as goal
 
 pub returns : goal.returns

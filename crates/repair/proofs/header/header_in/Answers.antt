@@ -1,6 +1,5 @@
 -- `repair::header::header_in` meets its contract. Assumes nothing.
 use Rattle.repair.proofs.Held.{header_made}
-use borrow.Author.Rules.{rules}
 use Rattle.repair.proofs.header.header_in.Goals as goal
 
 pub returns : goal.returns

@@ -1,5 +1,4 @@
 -- `repair::header::refusal_of` meets its contract. Assumes nothing.
-use mathlib.Core.Path.{◌∙◌, sym, ap}
 use Rattle.repair.proofs.Refusals.{not-large, large-accepted, large_row, refused_earlier}
 use borrow.Author.Rules.{rules}
 use Rattle.repair.proofs.header.refusal_of.Goals as goal

@@ -1,7 +1,6 @@
 -- `repair::steps::came` meets its contract. Assumes nothing.
 use mathlib.Core.Path.{refl}
 use Rattle.repair.proofs.Doing.{now_whole, lacks_still}
-use borrow.Author.Rules.{rules}
 use Rattle.repair.proofs.steps.came.Goals as goal
 
 pub returns-then-have-size_now : goal.returns-then-have-size_now

@@ -2,7 +2,6 @@
 use mathlib.Core.Path.{refl}
 use Rattle.lines.proofs.Lines.{written-whole}
 use Rattle.repair.proofs.Doing.{one_too_many, passed_over}
-use borrow.Author.Rules.{rules}
 use Rattle.repair.proofs.steps.passed.Goals as goal
 
 pub returns-then-repair-eq2 : goal.returns-then-repair-eq2

@@ -6,7 +6,6 @@ use lib.ListN.{take}
 use Rattle.lines.specs.Headers.{header_size}
 use Rattle.repair.proofs.Held.{size-held}
 use Rattle.repair.proofs.Ranges.{header-size_now, stripe-size_now, no_size_now}
-use borrow.Author.Rules.{rules}
 use Rattle.repair.proofs.steps.size_now.Goals as goal
 
 pub returns-then-stage-eq0 : goal.returns-then-stage-eq0

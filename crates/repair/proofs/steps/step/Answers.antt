@@ -1,12 +1,10 @@
 -- `repair::steps::step` meets its contract. Assumes nothing.
-use mathlib.Core.Path.{◌∙◌, sym, ap, refl}
+use mathlib.Core.Path.{◌∙◌, sym, ap}
 use mathlib.Core.List.{List}
 use Prim.Native.Nat.{ℕ, ◌-◌}
 use native.Mathlib.Omega.{arith}
-use lib.ListN.{length}
-use Rattle.repair.specs.Feeding.{size_now, took}
+use Rattle.repair.specs.Feeding.{took}
 use Rattle.repair.proofs.Doing.{does_same, silent, without_input, without_line, passing, held_too_short, image_too_short, taking, part_lacking, part-short}
-use borrow.Author.Rules.{rules}
 use Rattle.repair.proofs.steps.step.Goals as goal
 
 pub returns-then-input-eq0 : goal.returns-then-input-eq0

@@ -6,7 +6,6 @@ use native.Mathlib.Omega.{arith}
 use borrow.Author.Tests.{eq-eqb, ne_eqb}
 use Rattle.stripe.specs.Stripes.{stripe_length}
 use Rattle.repair.proofs.Ranges.{stripe_bounded}
-use borrow.Author.Rules.{rules}
 use Rattle.repair.proofs.steps.stripe_size.Goals as goal
 
 pub returns-then-stripe_refusal-ne0 : goal.returns-then-stripe_refusal-ne0

@@ -1,12 +1,10 @@
 -- `repair::steps::took` meets its contract. Assumes nothing.
-use mathlib.Core.Path.{◌∙◌, sym, ap}
+use mathlib.Core.Path.{◌∙◌, ap}
 use native.Mathlib.Omega.{arith}
 use lib.ListN.{length}
 use lib.Seq.{length-sets}
-use Rattle.repair.specs.Feeding.{in_range}
 use Rattle.repair.proofs.Ranges.{still_in_range}
 use Rattle.repair.proofs.Doing.{bytes-held}
-use borrow.Author.Rules.{rules}
 use Rattle.repair.proofs.steps.took.Goals as goal
 
 pub came-requires : goal.came-requires

@@ -9,7 +9,6 @@ use Rattle.report.proofs.Doing.{
   line_closes,
   silence_closes,
 }
-use borrow.Author.Rules.{rules}
 use Rattle.report.proofs.feeding.close.Goals as goal
 
 pub returns-then-out-lt-ROOM : goal.returns-then-out-lt-ROOM

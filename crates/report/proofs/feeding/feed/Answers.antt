@@ -1,6 +1,5 @@
 -- `report::feeding::feed` meets its contract. Assumes nothing.
 use Rattle.report.proofs.Doing.{fed_without_room, fed_without_input, fed_with_both}
-use borrow.Author.Rules.{rules}
 use Rattle.report.proofs.feeding.feed.Goals as goal
 
 pub returns-then-out-lt-ROOM : goal.returns-then-out-lt-ROOM

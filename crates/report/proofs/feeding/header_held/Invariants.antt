@@ -1,15 +1,9 @@
 -- `report::feeding::header_held` meets its contract. The invariant: what is left to store, over what is stored, is the whole.
 -- Assumes nothing.
-use mathlib.Core.Path.{◌≡◌, sym, ap, ◌∙◌}
-use mathlib.Core.List.{List}
-use Prim.Native.Nat.{ℕ, ◌+◌, ◌-◌, ◌≤◌}
-use native.Mathlib.Nat.{add-zero}
-use native.Mathlib.Omega.{arith}
+use mathlib.Core.Path.{◌≡◌}
+use Prim.Native.Nat.{◌+◌, ◌-◌, ◌≤◌}
 use lib.ListN.{length, drop}
 use lib.Seq.{sets}
-use Rattle.copy.proofs.Puts.{sets-turn, sets_end}
-use Rattle.report.specs.Feeding.{holding}
-use borrow.Author.Rules.{rules}
 use Rattle.report.proofs.feeding.header_held.Given as goal
 
 abbrev pub invariant-loop-i : goal.invariant-loop-i

@@ -1,6 +1,5 @@
 -- `report::feeding::header_took` meets its contract. Assumes nothing.
 use Rattle.report.proofs.Doing.{header-short, header-long}
-use borrow.Author.Rules.{rules}
 use Rattle.report.proofs.feeding.header_took.Goals as goal
 
 pub returns-then-have-header_size : goal.returns-then-have-header_size

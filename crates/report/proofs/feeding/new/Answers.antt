@@ -1,6 +1,5 @@
 -- `report::feeding::new` is `fresh_report`. Assumes nothing.
 use mathlib.Core.Path.{ap}
-use borrow.Author.Rules.{rules}
 use lib.ListN.{replicate}
 use Rattle.scan.specs.declared.Scan.{Scan}
 use Rattle.lines.specs.Headers.{header_room}

@@ -2,7 +2,6 @@
 use mathlib.Core.Path.{◌≡◌, refl, ap, ◌∙◌}
 use mathlib.Core.Bool.{Bool, true, false, cond}
 use Prim.Native.Nat.{ℕ}
-use borrow.Author.Rules.{rules}
 use lib.Dec.{eqb}
 use Rattle.layout.specs.Arrays.{no_array}
 use Rattle.layout.specs.declared.Array.{Array}
@@ -14,9 +13,9 @@ either : (refused : Bool) (scan : Scan) → cond refused scan scan ≡ scan
 either true scan = refl
 either false scan = refl
 
-none-started : (size : ℕ) → start_state no_array 0 size ≡ empty_scan no_array 0
+none_started : (size : ℕ) → start_state no_array 0 size ≡ empty_scan no_array 0
 unfolding start_state
-none-started size = either (eqb (start_refusal no_array 0 size) 0) (empty_scan no_array 0)
+none_started size = either (eqb (start_refusal no_array 0 size) 0) (empty_scan no_array 0)
 
 pub returns : goal.returns
-returns c = c.start-refused.ensures.state_value ∙ ap (λ (a : Array). start_state a 0 1) c.no_array.ensures ∙ none-started 1
+returns c = c.start-refused.ensures.state_value ∙ ap (λ (a : Array). start_state a 0 1) c.no_array.ensures ∙ none_started 1

@@ -1,7 +1,6 @@
 -- `report::feeding::stage_step` meets its contract, stage by stage. Assumes nothing.
 use Rattle.lines.proofs.Lines.{written-whole}
 use Rattle.report.proofs.Doing.{stage_of_header, stage_of_stripes, stage_of_last, stage_over}
-use borrow.Author.Rules.{rules}
 use Rattle.report.proofs.feeding.stage_step.Goals as goal
 
 pub returns-then-stage-eq0 : goal.returns-then-stage-eq0

@@ -1,6 +1,5 @@
 -- `report::feeding::stripe_step` meets its contract. Assumes nothing.
 use mathlib.Core.Path.{sym, ◌∙◌}
-use borrow.Author.Tests.{not-true, not-false}
 use Rattle.report.specs.Feeding.{block_lacks}
 use Rattle.report.proofs.Doing.{part_lacking, part-short, unfit_passes, fit_takes}
 use borrow.Author.Rules.{rules}

@@ -1,12 +1,9 @@
 -- `report::fills::fill` meets its contract. The invariant is `Filled`; each call that uses something leads on, and the one that uses nothing
 -- is the last. The measure is what is left of the input. Assumes nothing.
-use mathlib.Core.Path.{◌≡◌, refl}
-use Prim.Native.Nat.{◌-◌}
+use mathlib.Core.Path.{refl}
 use native.Mathlib.Omega.{arith}
 use borrow.Author.Rules.{rules}
-use lib.ListN.{length}
-use Rattle.report.specs.Fills.{fill_step}
-use Rattle.report.proofs.Filled.{Filled, none_filled, used-within, written-within, all_filled, more_filled}
+use Rattle.report.proofs.Filled.{none_filled, used-within, written-within, all_filled, more_filled}
 use Rattle.report.proofs.fills.fill.Goals as goal
 
 pub loop-used-init : goal.loop-used-init

@@ -1,12 +1,10 @@
 -- `report::fills::fill` meets its contract. The invariant is `Filled`; each call that uses something leads on, and the one that uses nothing
 -- is the last. The measure is what is left of the input. Assumes nothing.
-use mathlib.Core.Path.{◌≡◌, refl}
+use mathlib.Core.Path.{◌≡◌}
 use Prim.Native.Nat.{◌-◌}
-use native.Mathlib.Omega.{arith}
-use borrow.Author.Rules.{rules}
 use lib.ListN.{length}
 use Rattle.report.specs.Fills.{fill_step}
-use Rattle.report.proofs.Filled.{Filled, none_filled, used-within, written-within, all_filled, more_filled}
+use Rattle.report.proofs.Filled.{Filled}
 use Rattle.report.proofs.fills.fill.Given as goal
 
 abbrev pub invariant-loop-used : goal.invariant-loop-used

@@ -1,6 +1,5 @@
 -- `report::lending::judge` meets its contract. Assumes nothing.
-use mathlib.Core.Path.{◌≡◌, ap, ◌∙◌}
-use borrow.Author.Rules.{rules}
+use mathlib.Core.Path.{ap, ◌∙◌}
 use Rattle.tag.specs.Blocks.{format_at}
 use Rattle.scan.specs.Scans.{finish_numbers}
 use Rattle.report.proofs.Fronts.{front-lent}

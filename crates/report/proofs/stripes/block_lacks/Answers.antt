@@ -2,7 +2,6 @@
 use mathlib.Core.Path.{ap}
 use Prim.Native.Nat.{ℕ, ◌-◌, ◌%◌}
 use native.Mathlib.Omega.{arith}
-use borrow.Author.Rules.{rules}
 use Rattle.tag.specs.Blocks.{format_at}
 use Rattle.report.proofs.Blocks.{block-some, rest-short}
 use Rattle.report.proofs.stripes.block_lacks.Goals as goal

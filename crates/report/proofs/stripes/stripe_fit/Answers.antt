@@ -1,7 +1,6 @@
 -- `report::stripes::stripe_fit` is `stripe_fit`. Assumes nothing.
 use mathlib.Core.Path.{sym, ◌∙◌}
 use native.Mathlib.Omega.{arith}
-use borrow.Author.Rules.{rules}
 use Rattle.layout.proofs.Ranges.{stripe_sound}
 use Rattle.report.proofs.FitStates.{out_of_range, too_much, counts_decide}
 use Rattle.report.proofs.stripes.stripe_fit.Goals as goal

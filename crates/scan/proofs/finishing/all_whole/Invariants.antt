@@ -1,18 +1,13 @@
 -- `scan::finishing::all_whole` meets its contract.
 -- Assumes nothing.
-use mathlib.Core.Path.{◌≡◌, refl, sym, ap, ◌∙◌}
-use mathlib.Core.Bool.{true, false}
+use mathlib.Core.Path.{◌≡◌}
 use mathlib.Core.List.{map}
-use Prim.Native.Nat.{ℕ, ◌-◌, ◌≤◌}
-use native.Mathlib.Omega.{arith}
-use lib.Dec.{leb, ltb, eqb}
-use lib.ListN.{length, take, drop}
-use borrow.Author.Tests.{le-leb, lt-leb, eq-eqb, ne_eqb, not-true, not-false}
+use Prim.Native.Nat.{◌-◌}
+use lib.Dec.{eqb}
+use lib.ListN.{take, drop}
 use Rattle.format.specs.Methods.{format_of}
 use Rattle.stripe.specs.Tables.{all}
 use Rattle.scan.specs.Steps.{all_whole}
-use Rattle.scan.proofs.Fitness.{all-turn, all_end}
-use borrow.Author.Rules.{rules}
 use Rattle.scan.proofs.finishing.all_whole.Given as goal
 
 abbrev pub invariant-loop-member : goal.invariant-loop-member

@@ -1,13 +1,8 @@
 -- `scan::finishing::combined_held` meets its contract. The invariant: what was combined, with what the guards not passed combine to, is what all do. Assumes nothing.
-use mathlib.Core.Path.{◌≡◌, ◌∙◌}
-use Prim.Native.Nat.{◌-◌}
+use mathlib.Core.Path.{◌∙◌}
 use native.Mathlib.Omega.{arith}
-use lib.Bits.{bit_xor, xor_zero_l}
-use lib.ListN.{drop}
-use borrow.Author.Rules.{rules}
+use lib.Bits.{xor_zero_l}
 use Rattle.format.specs.Methods.{format_of}
-use Rattle.verdict.specs.Verdicts.{combined_guards}
-use Rattle.scan.specs.Steps.{held_guards}
 use Rattle.scan.proofs.Judging.{guard-taken, guards-taken}
 use Rattle.scan.proofs.finishing.combined_held.Goals as goal
 

@@ -2,12 +2,11 @@
 -- Assumes nothing.
 use mathlib.Core.Path.{◌≡◌, sym, ◌∙◌}
 use mathlib.Core.Bool.{true, false}
-use borrow.Author.Tests.{eq-eqb, ne_eqb, not-true, not-false}
+use borrow.Author.Tests.{eq-eqb, ne_eqb}
 use Rattle.tag.specs.Blocks.{format_at}
 use Rattle.scan.specs.Scans.{fit, finish_refusal}
 use Rattle.scan.specs.Steps.{all_whole}
 use Rattle.scan.proofs.Fitness.{fit-state}
-use borrow.Author.Rules.{rules}
 use Rattle.scan.proofs.finishing.finish_refusal.Goals as goal
 
 pub returns-then-not-fit : goal.returns-then-not-fit

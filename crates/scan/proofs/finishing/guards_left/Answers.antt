@@ -3,7 +3,6 @@ use mathlib.Core.Path.{sym, ◌∙◌}
 use Rattle.format.specs.Methods.{format_of}
 use Rattle.stripe.proofs.Carried.{left_plain, left-carried}
 use Rattle.scan.specs.Steps.{held_guards}
-use borrow.Author.Rules.{rules}
 use Rattle.scan.proofs.finishing.guards_left.Goals as goal
 
 pub returns-then-carries : goal.returns-then-carries

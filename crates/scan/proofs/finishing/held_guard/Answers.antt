@@ -3,7 +3,6 @@ use mathlib.Core.Path.{ap}
 use Rattle.format.specs.Methods.{format_of}
 use Rattle.tag.specs.declared.Fields.{Fields}
 use Rattle.scan.proofs.Judging.{held-room, fields-held}
-use borrow.Author.Rules.{rules}
 use Rattle.scan.proofs.finishing.held_guard.Goals as goal
 
 pub fields_at-found-requires : goal.fields_at-found-requires

@@ -7,7 +7,6 @@ use Rattle.layout.proofs.Seats.{beside_owner}
 use Rattle.tag.specs.Blocks.{format_at}
 use Rattle.tag.proofs.Owed.{expected-told}
 use Rattle.scan.proofs.Judging.{held-room, fields-held, held_by_steps}
-use borrow.Author.Rules.{rules}
 use Rattle.scan.proofs.finishing.standing.Goals as goal
 
 pub tag_at-at-requires : goal.tag_at-at-requires

@@ -1,9 +1,8 @@
 -- `scan::finishing::standings` meets its contract. The invariant: the members passed are told as they stand. Assumes nothing.
 use mathlib.Core.Path.{◌≡◌, refl, ap, ◌∙◌, subst}
 use mathlib.Core.List.{List}
-use Prim.Native.Nat.{ℕ, ◌-◌, ◌≤◌, ◌<◌}
+use Prim.Native.Nat.{ℕ, ◌≤◌, ◌<◌}
 use native.Mathlib.Omega.{arith}
-use borrow.Author.Rules.{rules}
 use lib.ListN.{length, get_or, take, length-set}
 use Rattle.format.specs.Formats.{register_from}
 use Rattle.format.proofs.Laws.{kept_small}

@@ -1,13 +1,9 @@
 -- `scan::starting::clear` meets its contract. The invariant: zeros as far as the loop went, then the bytes as they were.
 -- Assumes nothing.
-use mathlib.Core.Path.{◌≡◌, refl, ◌∙◌}
-use mathlib.Core.List.{◌++◌, append-nil}
+use mathlib.Core.Path.{◌≡◌}
+use mathlib.Core.List.{◌++◌}
 use Prim.Native.Nat.{◌-◌, ◌≤◌}
-use native.Mathlib.Omega.{arith}
-use borrow.Author.Fill.{fill_none, fill_more}
-use borrow.Author.Rules.{rules}
-use lib.ListN.{length, drop, replicate, length-set}
-use lib.Seq.{drop-length}
+use lib.ListN.{length, drop, replicate}
 use Rattle.scan.proofs.starting.clear.Given as goal
 
 abbrev pub invariant-loop-i : goal.invariant-loop-i

@@ -5,7 +5,6 @@ use Prim.Native.Nat.{ℕ}
 use lib.ListN.{replicate}
 use Rattle.format.specs.Formats.{most_tags}
 use Rattle.scan.specs.Scans.{empty_scan}
-use borrow.Author.Rules.{rules}
 use Rattle.scan.proofs.starting.empty.Goals as goal
 
 pub returns : goal.returns

@@ -1,6 +1,5 @@
 -- `scan::starting::start` meets its contract. Assumes nothing.
 use mathlib.Core.Path.{sym, ap, ◌∙◌}
-use borrow.Author.Rules.{rules}
 use Rattle.layout.specs.declared.Array.{Array}
 use Rattle.scan.specs.Scans.{empty_scan}
 use Rattle.scan.proofs.Fitness.{started, start_refused}

@@ -4,7 +4,6 @@ use mathlib.Core.Path.{sym, ◌∙◌}
 use borrow.Author.Tests.{eq-eqb, ne_eqb}
 use Rattle.layout.proofs.Answers.{after_refused}
 use Rattle.scan.specs.Scans.{start_refusal}
-use borrow.Author.Rules.{rules}
 use Rattle.scan.proofs.starting.start_refusal.Goals as goal
 
 pub returns-then-refusal-ne0 : goal.returns-then-refusal-ne0

@@ -1,5 +1,5 @@
 -- `scan::taking::fit_at_once` is `fit`, of the parts of a state: of all sixteen together, else by the members one by one. Assumes nothing.
-use mathlib.Core.Path.{◌≡◌, ap, ◌∙◌}
+use mathlib.Core.Path.{ap, ◌∙◌}
 use mathlib.Core.List.{[]}
 use Prim.Native.Nat.{ℕ}
 use native.Mathlib.Omega.{arith}
@@ -9,7 +9,6 @@ use Rattle.tag.specs.Blocks.{format_at}
 use Rattle.scan.specs.declared.Scan.{Scan}
 use Rattle.scan.specs.Scans.{fit}
 use Rattle.scan.proofs.Fitness.{fit-told}
-use borrow.Author.Rules.{rules}
 use Rattle.scan.proofs.taking.fit_at_once.Goals as goal
 
 pub overflow_cast-end : goal.overflow_cast-end

@@ -4,7 +4,6 @@ use native.Mathlib.Omega.{arith}
 use lib.ListN.{length}
 use Rattle.scan.proofs.Fitness.{taken_in, piece_refused}
 use Rattle.scan.proofs.Rows.{accepted}
-use borrow.Author.Rules.{rules}
 use Rattle.scan.proofs.taking.next.Goals as goal
 
 pub returns-then-refusal-ne0 : goal.returns-then-refusal-ne0

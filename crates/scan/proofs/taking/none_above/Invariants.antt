@@ -1,11 +1,6 @@
 -- `scan::taking::none_above` meets its contract. The invariant: none of those passed is above the bits of all of them. Assumes nothing.
 use Prim.Native.Nat.{ℕ, ◌-◌, ◌≤◌, ◌<◌}
-use native.Mathlib.Nat.{le_trans}
-use native.Mathlib.Omega.{arith}
-use borrow.Author.Tests.{leb-true}
 use lib.ListN.{get_or}
-use Rattle.scan.proofs.Replacing.{bits_of_all}
-use borrow.Author.Rules.{rules}
 use Rattle.scan.proofs.taking.none_above.Given as goal
 
 abbrev pub invariant-loop-i : goal.invariant-loop-i

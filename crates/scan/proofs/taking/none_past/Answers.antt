@@ -1,13 +1,10 @@
 -- `scan::taking::none_past` meets its contract. The invariant: as long as the flag stands, none of those passed is past the end. Assumes nothing.
-use mathlib.Core.Path.{◌≡◌}
-use mathlib.Core.Bool.{true}
-use Prim.Native.Nat.{ℕ, ◌-◌, ◌≤◌, ◌<◌}
+use Prim.Native.Nat.{ℕ}
 use native.Mathlib.Omega.{arith}
 use borrow.Author.Tests.{leb-true}
 use lib.Dec.{leb}
 use lib.ListN.{get_or}
 use Rattle.scan.proofs.Replacing.{still_all}
-use borrow.Author.Rules.{rules}
 use Rattle.scan.proofs.taking.none_past.Goals as goal
 
 pub loop-i-init : goal.loop-i-init

@@ -1,13 +1,10 @@
 -- `scan::taking::none_waits` meets its contract. The invariant: as long as the flag stands, none of those passed is waiting. Assumes nothing.
-use mathlib.Core.Path.{◌≡◌}
-use mathlib.Core.Bool.{true}
-use Prim.Native.Nat.{ℕ, ◌-◌, ◌≤◌, ◌<◌}
+use Prim.Native.Nat.{ℕ}
 use native.Mathlib.Omega.{arith}
 use borrow.Author.Tests.{eqb-true}
 use lib.Dec.{eqb}
 use lib.ListN.{get_or}
 use Rattle.scan.proofs.Replacing.{still_all}
-use borrow.Author.Rules.{rules}
 use Rattle.scan.proofs.taking.none_waits.Goals as goal
 
 pub loop-i-init : goal.loop-i-init

@@ -2,12 +2,8 @@
 use mathlib.Core.Path.{◌≡◌}
 use mathlib.Core.Bool.{true}
 use Prim.Native.Nat.{ℕ, ◌-◌, ◌≤◌, ◌<◌}
-use native.Mathlib.Omega.{arith}
-use borrow.Author.Tests.{eqb-true}
 use lib.Dec.{eqb}
 use lib.ListN.{get_or}
-use Rattle.scan.proofs.Replacing.{still_all}
-use borrow.Author.Rules.{rules}
 use Rattle.scan.proofs.taking.none_waits.Given as goal
 
 abbrev pub invariant-loop-i : goal.invariant-loop-i

@@ -3,7 +3,6 @@ use mathlib.Core.Path.{◌≡◌, refl, sym, ◌∙◌}
 use native.Mathlib.Omega.{arith}
 use Rattle.format.specs.Methods.{format_of}
 use Rattle.scan.proofs.Cuts.{passed_alike}
-use borrow.Author.Rules.{rules}
 use Rattle.scan.proofs.taking.pass.Goals as goal
 
 pub returns-then-register-start : goal.returns-then-register-start

@@ -1,11 +1,10 @@
 -- `scan::taking::pass_on` meets its contract: the piece is cut by the code's numbers. Assumes nothing.
-use mathlib.Core.Path.{◌≡◌, ap, ◌∙◌}
+use mathlib.Core.Path.{ap, ◌∙◌}
 use Prim.Native.Nat.{ℕ, ◌-◌}
 use native.Mathlib.Omega.{arith}
 use lib.ListN.{length-take, length-drop}
 use Rattle.format.specs.Methods.{format_of}
 use Rattle.scan.proofs.Cuts.{data_part, tags_by_cut, work_by_cut}
-use borrow.Author.Rules.{rules}
 use Rattle.scan.proofs.taking.pass_on.Goals as goal
 
 pub slice_bounds-head-end : goal.slice_bounds-head-end

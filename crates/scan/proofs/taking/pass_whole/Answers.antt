@@ -3,7 +3,6 @@ use mathlib.Core.Path.{◌≡◌, sym, ap₂, ◌∙◌}
 use native.Mathlib.Omega.{arith}
 use Rattle.format.specs.Methods.{format_of}
 use Rattle.scan.proofs.Cuts.{whole_data, whole-work, whole-tags}
-use borrow.Author.Rules.{rules}
 use Rattle.scan.proofs.taking.pass_whole.Goals as goal
 
 pub slice_bounds-head-end : goal.slice_bounds-head-end

@@ -1,14 +1,12 @@
 -- `scan::taking::piece_refusal` meets its contract.
 -- Assumes nothing.
 use mathlib.Core.Path.{◌≡◌, sym, ◌∙◌}
-use mathlib.Core.Bool.{true}
 use native.Mathlib.Omega.{arith}
-use borrow.Author.Tests.{lt-ltb, le-ltb, eq-eqb, ne_eqb, not-true, not-false}
+use borrow.Author.Tests.{lt-ltb, le-ltb, eq-eqb, ne_eqb}
 use Rattle.format.proofs.Sizes.{block-most}
 use Rattle.tag.specs.Blocks.{format_at}
 use Rattle.scan.specs.Scans.{fit, piece_refusal}
 use Rattle.scan.proofs.Fitness.{fit-state}
-use borrow.Author.Rules.{rules}
 use Rattle.scan.proofs.taking.piece_refusal.Goals as goal
 
 pub returns-then-not-fit_at_once : goal.returns-then-not-fit_at_once

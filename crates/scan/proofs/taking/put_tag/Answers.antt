@@ -2,7 +2,6 @@
 use mathlib.Core.Path.{ap, ◌∙◌}
 use native.Mathlib.Omega.{arith}
 use lib.Seq.{sets, take_all}
-use borrow.Author.Rules.{rules}
 use Rattle.scan.proofs.taking.put_tag.Goals as goal
 
 pub returns-then-bytes-eq-USUAL_TAG : goal.returns-then-bytes-eq-USUAL_TAG

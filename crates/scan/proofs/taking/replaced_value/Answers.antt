@@ -1,10 +1,10 @@
 -- `scan::taking::replaced_value` meets its contract. The invariant: as many numbers as were passed are those with the value set. Assumes nothing.
 use mathlib.Core.Path.{◌≡◌, refl, sym, ap₂, ◌∙◌}
 use mathlib.Core.List.{List, [], ◌∷◌, ◌++◌}
-use Prim.Native.Nat.{ℕ, ◌-◌, ◌≤◌, ◌<◌}
+use Prim.Native.Nat.{ℕ, ◌≤◌, ◌<◌}
 use native.Mathlib.Numerals.{add-one}
 use native.Mathlib.Omega.{arith}
-use lib.ListN.{length, take, get_or, set, length-set}
+use lib.ListN.{length, set, length-set}
 use lib.Seq.{take-suc-set, take-suc, take_all}
 use borrow.Author.Rules.{rules}
 use Rattle.scan.proofs.Replacing.{chosen-there}

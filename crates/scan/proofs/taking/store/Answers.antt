@@ -5,7 +5,6 @@ use native.Mathlib.Omega.{arith}
 use lib.Seq.{sets}
 use Rattle.format.specs.Methods.{format_of}
 use Rattle.format.proofs.Sizes.{times-next}
-use borrow.Author.Rules.{rules}
 use Rattle.scan.proofs.taking.store.Goals as goal
 
 pub overflow_add-from : goal.overflow_add-from

@@ -8,7 +8,6 @@ use Rattle.format.proofs.Laws.{kept_small}
 use Rattle.tag.specs.Blocks.{format_at}
 use Rattle.scan.specs.Scans.{buffer}
 use Rattle.scan.proofs.Cuts.{advanced_by}
-use borrow.Author.Rules.{rules}
 use Rattle.scan.proofs.taking.take_in.Goals as goal
 
 pub overflow_cast-register : goal.overflow_cast-register
@@ -33,11 +32,11 @@ unfolding buffer
 returns c =
     let a = c.args in
     let place : a.member % 65536 ≡ a.member = mod-eq_of_lt (omega (arith, c.requires.member_bound)) in
-    let wide-place : a.member % 4294967296 ≡ a.member = mod-eq_of_lt (omega (arith, c.requires.member_bound)) in record {
+    let wide_place : a.member % 4294967296 ≡ a.member = mod-eq_of_lt (omega (arith, c.requires.member_bound)) in record {
       value = advanced_by a.state a.member a.bytes.now c.replaced-at.result c.replaced_value-value.result c.replaced_byte-waiting.result
           c.register_of-register.result c.pass-after.result c.value_in.result c.waiting_in.result _
           c.register_of-register.ensures.value c.pass-after.ensures.value c.value_in.ensures c.waiting_in.ensures
           (c.replaced-at.ensures ∙ ap (λ (m : ℕ). set a.state.at m (get_or a.state.at a.member 0 + length a.bytes.now)) place)
-          (c.replaced_value-value.ensures ∙ ap (λ (m : ℕ). set a.state.register m c.value_in.result) wide-place) c.replaced_byte-waiting.ensures c.pass-after.ensures.tag_after;
+          (c.replaced_value-value.ensures ∙ ap (λ (m : ℕ). set a.state.register m c.value_in.result) wide_place) c.replaced_byte-waiting.ensures c.pass-after.ensures.tag_after;
       work_after = c.pass-after.ensures.work_after;
     }

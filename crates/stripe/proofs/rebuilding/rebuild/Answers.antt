@@ -9,7 +9,6 @@ use Rattle.tag.specs.Blocks.{format_at}
 use Rattle.stripe.specs.Steps.{sources_refusal, fitting}
 use Rattle.stripe.proofs.Carried.{fit_plain}
 use Rattle.stripe.proofs.Rebuilds.{Serving, sources_serving, rebuild_sources_refused, rebuild-fits, rebuild-kept, rebuild-left, rebuild-done}
-use borrow.Author.Rules.{rules}
 use Rattle.stripe.proofs.rebuilding.rebuild.Goals as goal
 
 pub sources_refusal-refusal-requires : goal.sources_refusal-refusal-requires

@@ -7,7 +7,6 @@ use borrow.Author.Tests.{not-true, not-false}
 use lib.ListN.{length}
 use Rattle.format.proofs.Laws.{carried-piece}
 use Rattle.layout.specs.Answers.{refuse}
-use Rattle.layout.proofs.Ranges.{place_sound, sound_stripe}
 use Rattle.tag.specs.Blocks.{format_at}
 use Rattle.stripe.specs.Stripes.{others_data}
 use Rattle.stripe.specs.Jobs.{rebuilt}
@@ -15,7 +14,6 @@ use Rattle.stripe.proofs.Pieces.{one_piece}
 use Rattle.stripe.proofs.Rebuilds.{fitting_by, made_again}
 use Rattle.stripe.proofs.Rooms.{block_room}
 use Rattle.stripe.proofs.Rows.{length-others_data}
-use borrow.Author.Rules.{rules}
 use Rattle.stripe.proofs.rebuilding.rebuild_carried.Goals as goal
 
 pub combined-requires : goal.combined-requires

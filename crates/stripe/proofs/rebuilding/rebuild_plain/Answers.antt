@@ -10,7 +10,7 @@ use lib.Seq.{length-sets}
 use Rattle.format.specs.Formats.{guard}
 use Rattle.format.proofs.Combined.{settled_plain}
 use Rattle.format.proofs.Laws.{combines}
-use Rattle.layout.proofs.Ranges.{place_sound, sound_stripe}
+use Rattle.layout.proofs.Ranges.{place_sound}
 use Rattle.tag.specs.Blocks.{format_at}
 use Rattle.tag.proofs.Guards.{own_plain, guard-own}
 use Rattle.verdict.specs.Verdicts.{combined_guards}
@@ -20,7 +20,6 @@ use Rattle.stripe.proofs.Guards.{others-guard}
 use Rattle.stripe.proofs.Rebuilds.{made_again}
 use Rattle.stripe.proofs.Rooms.{block_room}
 use Rattle.stripe.proofs.Rows.{length-others_data}
-use borrow.Author.Rules.{rules}
 use Rattle.stripe.proofs.rebuilding.rebuild_plain.Goals as goal
 
 pub plain_guard-guard-requires : goal.plain_guard-guard-requires

@@ -1,14 +1,12 @@
 -- `stripe::rebuilding::sources_refusal` meets its contract.
 -- Assumes nothing.
-use mathlib.Core.Path.{◌≡◌, sym, ◌∙◌}
+use mathlib.Core.Path.{sym, ◌∙◌}
 use native.Mathlib.Omega.{arith}
-use borrow.Author.Tests.{not-true, not-false}
 use mathlib.Core.Bool.{true, false}
 use Rattle.format.proofs.Sizes.{block-times}
 use Rattle.tag.specs.Blocks.{format_at}
 use Rattle.layout.proofs.Ranges.{place_sound, sound_stripe}
 use Rattle.stripe.proofs.Rebuilds.{sources_nowhere, sources_length, sources_others}
-use borrow.Author.Rules.{rules}
 use Rattle.stripe.proofs.rebuilding.sources_refusal.Goals as goal
 
 pub returns-then-refusal-ne0 : goal.returns-then-refusal-ne0

@@ -2,9 +2,9 @@
 -- Assumes nothing.
 use mathlib.Core.Path.{◌≡◌, refl, ap, ◌∙◌}
 use mathlib.Core.List.{List}
-use Prim.Native.Nat.{ℕ, ◌+◌, ◌-◌, ◌%◌, ◌≤◌}
+use Prim.Native.Nat.{ℕ, ◌+◌, ◌≤◌}
 use native.Mathlib.Omega.{arith}
-use lib.ListN.{length, drop}
+use lib.ListN.{length}
 use Rattle.format.specs.Formats.{piece_length}
 use Rattle.format.specs.Methods.{format_of}
 use Rattle.verdict.specs.Verdicts.{lowest, nonzero}
@@ -12,7 +12,6 @@ use Rattle.stripe.specs.Tables.{span}
 use Rattle.stripe.specs.Stripes.{others_data}
 use Rattle.stripe.proofs.Pieces.{piece-whole, first-here, first-later, first_nowhere}
 use Rattle.stripe.proofs.Rows.{length-span, length-others_data}
-use borrow.Author.Rules.{rules}
 use Rattle.stripe.proofs.scrubbing.first_torn.Goals as goal
 
 pub loop-from-init : goal.loop-from-init

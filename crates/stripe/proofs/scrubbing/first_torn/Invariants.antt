@@ -1,18 +1,12 @@
 -- `stripe::scrubbing::first_torn` meets its contract. The invariant: the first place is the one behind what was looked at.
 -- Assumes nothing.
-use mathlib.Core.Path.{◌≡◌, refl, ap, ◌∙◌}
-use mathlib.Core.List.{List}
-use Prim.Native.Nat.{ℕ, ◌+◌, ◌-◌, ◌%◌, ◌≤◌}
-use native.Mathlib.Omega.{arith}
+use mathlib.Core.Path.{◌≡◌}
+use Prim.Native.Nat.{◌+◌, ◌-◌, ◌%◌, ◌≤◌}
 use lib.ListN.{length, drop}
 use Rattle.format.specs.Formats.{piece_length}
 use Rattle.format.specs.Methods.{format_of}
 use Rattle.verdict.specs.Verdicts.{lowest, nonzero}
-use Rattle.stripe.specs.Tables.{span}
 use Rattle.stripe.specs.Stripes.{others_data}
-use Rattle.stripe.proofs.Pieces.{piece-whole, first-here, first-later, first_nowhere}
-use Rattle.stripe.proofs.Rows.{length-span, length-others_data}
-use borrow.Author.Rules.{rules}
 use Rattle.stripe.proofs.scrubbing.first_torn.Given as goal
 
 abbrev pub invariant-loop-from : goal.invariant-loop-from

@@ -4,7 +4,6 @@ use native.Mathlib.Omega.{arith}
 use Rattle.format.specs.Methods.{format_of}
 use Rattle.stripe.specs.Stripes.{stored_guards}
 use Rattle.stripe.proofs.Carried.{left_plain, left-carried, others-guards-all}
-use borrow.Author.Rules.{rules}
 use Rattle.stripe.proofs.scrubbing.guards_left.Goals as goal
 
 pub returns-then-carries : goal.returns-then-carries

@@ -17,7 +17,6 @@ use Rattle.stripe.specs.Verdicts.{scrub_refusal}
 use Rattle.stripe.proofs.Fronts.{lent-front}
 use Rattle.stripe.proofs.Rows.{length-others_data}
 use Rattle.stripe.proofs.Scrubs.{scrub_sound, scrub_refused, scrub_found}
-use borrow.Author.Rules.{rules}
 use Rattle.stripe.proofs.scrubbing.scrub.Goals as goal
 
 pub returns-then-refusal-ne0 : goal.returns-then-refusal-ne0

@@ -6,7 +6,6 @@ use Rattle.format.proofs.Sizes.{block-times}
 use Rattle.tag.specs.Blocks.{format_at}
 use Rattle.layout.proofs.Ranges.{stripe_sound}
 use Rattle.stripe.proofs.Scrubs.{stripe_refused_first, length_refused, sound_scrub}
-use borrow.Author.Rules.{rules}
 use Rattle.stripe.proofs.scrubbing.scrub_refusal.Goals as goal
 
 pub returns-then-refusal-ne0 : goal.returns-then-refusal-ne0

@@ -16,7 +16,6 @@ use Rattle.stripe.specs.Accepted.{Fitting}
 use Rattle.stripe.proofs.Blocks.{data_then_tag}
 use Rattle.stripe.proofs.Rows.{length-others_data}
 use Rattle.stripe.proofs.Seals.{seal_fitting, seal_kept, seal_done, length-written, parity-guard, sealed_by_calls}
-use borrow.Author.Rules.{rules}
 use Rattle.stripe.proofs.sealing.seal.Goals as goal
 
 pub returns-then-refusal-ne0 : goal.returns-then-refusal-ne0

@@ -1,6 +1,6 @@
 -- `stripe::sealing::seal_refusal` meets its contract.
 -- Assumes nothing.
-use mathlib.Core.Path.{◌≡◌, sym, ◌∙◌}
+use mathlib.Core.Path.{sym, ◌∙◌}
 use Prim.Native.Nat.{◌-◌}
 use native.Mathlib.Omega.{arith}
 use Rattle.format.proofs.Sizes.{block-times, data_times}
@@ -8,7 +8,6 @@ use Rattle.tag.specs.Blocks.{format_at}
 use Rattle.layout.specs.Ranges.{Sound}
 use Rattle.layout.proofs.Ranges.{stripe_sound}
 use Rattle.stripe.proofs.Seals.{seal_nowhere, seal_content, seal_length, seal_accepted}
-use borrow.Author.Rules.{rules}
 use Rattle.stripe.proofs.sealing.seal_refusal.Goals as goal
 
 pub returns-then-refusal-ne0 : goal.returns-then-refusal-ne0

@@ -1,28 +1,27 @@
 -- `stripe::sealing::write_data` meets its contract. The invariant: the blocks below the member are written, the others are as they were.
 -- Assumes nothing.
-use mathlib.Core.Path.{◌≡◌, refl, sym, ap, ◌∙◌}
+use mathlib.Core.Path.{◌≡◌, ap, ◌∙◌}
 use mathlib.Core.List.{List}
 use mathlib.Core.Bool.{Bool, true, false, cond}
-use Prim.Native.Nat.{ℕ, ◌+◌, ◌-◌, ◌≤◌, ◌<◌}
+use Prim.Native.Nat.{ℕ, ◌-◌, ◌≤◌, ◌<◌}
 use native.Mathlib.Omega.{arith}
 use borrow.Author.Rules.{rules}
 use lib.Dec.{ltb}
-use lib.ListN.{length, get_or}
+use lib.ListN.{get_or}
 use Rattle.layout.specs.declared.Seat.{Seat}
 use Rattle.format.specs.Formats.{guards_of}
-use Rattle.layout.specs.Arrays.{stripe_refusal}
 use Rattle.layout.specs.Places.{parity_member, index_at}
 use Rattle.layout.specs.declared.Array.{Array}
 use Rattle.layout.proofs.Numbers.{index_right}
 use Rattle.layout.proofs.Ranges.{stripe_sound, sound_place}
 use Rattle.tag.specs.Blocks.{format_at}
-use Rattle.stripe.proofs.Seals.{Written, none_written, one_written, all-written}
+use Rattle.stripe.proofs.Seals.{none_written, one_written, all-written}
 use Rattle.stripe.proofs.sealing.write_data.Goals as goal
 
 -- an index is at most its member's number
-index-most : (a : Array) (stripe member : ℕ) → index_at a stripe member ≤ member
+index_most : (a : Array) (stripe member : ℕ) → index_at a stripe member ≤ member
 unfolding index_at
-index-most a stripe member = by_test (ltb member (parity_member a stripe))
+index_most a stripe member = by_test (ltb member (parity_member a stripe))
   where
     by_test : (t : Bool) → cond t member (member - 1) ≤ member
     by_test true = omega arith
@@ -37,7 +36,7 @@ offset_bounds-guards-index c =
     c.index_beside-index.ensures ∙ index_right a.array a.stripe c.seat_of-seat.result.parity c.loop-member.member (ap (λ (x : Seat). x.parity) c.seat_of-seat.ensures) in
     let below : c.index_beside-index.result < 16 = let at = c.loop-member in
     let a = c.args in
-    omega (arith, right, index-most a.array a.stripe at.member, (stripe_sound a.array a.stripe c.requires.stripe_value).array.many) in
+    omega (arith, right, index_most a.array a.stripe at.member, (stripe_sound a.array a.stripe c.requires.stripe_value).array.many) in
     omega (arith, below)
 
 pub bounds-guards-index : goal.bounds-guards-index
@@ -46,7 +45,7 @@ bounds-guards-index c =
     c.index_beside-index.ensures ∙ index_right a.array a.stripe c.seat_of-seat.result.parity c.loop-member.member (ap (λ (x : Seat). x.parity) c.seat_of-seat.ensures) in
     let below : c.index_beside-index.result < 16 = let at = c.loop-member in
     let a = c.args in
-    omega (arith, right, index-most a.array a.stripe at.member, (stripe_sound a.array a.stripe c.requires.stripe_value).array.many) in
+    omega (arith, right, index_most a.array a.stripe at.member, (stripe_sound a.array a.stripe c.requires.stripe_value).array.many) in
     omega (arith, below)
 
 pub write_member-requires : goal.write_member-requires

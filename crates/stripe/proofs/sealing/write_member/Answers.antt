@@ -26,7 +26,6 @@ use Rattle.stripe.proofs.Blocks.{data_then_tag}
 use Rattle.stripe.proofs.Rows.{lent-span, length-span}
 use Rattle.stripe.proofs.Rooms.{block_room}
 use Rattle.stripe.proofs.Guards.{part-guard}
-use borrow.Author.Rules.{rules}
 use Rattle.stripe.proofs.sealing.write_member.Goals as goal
 
 pub returns-then-member-parity : goal.returns-then-member-parity
@@ -36,22 +35,22 @@ returns-then-member-parity c =
 
 pub data_at-from-requires : goal.data_at-from-requires
 data_at-from-requires c =
-    let not-parity : let a = c.args in a.member ≢ parity_member a.array a.stripe = λ q. c.if-member-parity.false (q ∙ sym (ap (λ (x : Seat). x.parity) c.requires.seat_value)) in
+    let not_parity : let a = c.args in a.member ≢ parity_member a.array a.stripe = λ q. c.if-member-parity.false (q ∙ sym (ap (λ (x : Seat). x.parity) c.requires.seat_value)) in
     let right : let a = c.args in c.index_beside-index.result ≡ index_at a.array a.stripe a.member = let a = c.args in
     c.index_beside-index.ensures ∙ index_right a.array a.stripe a.seat.parity a.member (ap (λ (x : Seat). x.parity) c.requires.seat_value) in
     let small : c.index_beside-index.result < data_members c.args.array = let a = c.args in
-    rw right (index_below a.array a.stripe a.member (place_sound a.array a.stripe a.member c.requires.member_value).here not-parity) in
+    rw right (index_below a.array a.stripe a.member (place_sound a.array a.stripe a.member c.requires.member_value).here not_parity) in
     let inside : let a = c.args in
     (format_at a.array).data_length * c.index_beside-index.result + (format_at a.array).data_length ≤ length a.content.now = omega (arith, c.requires.content_len, times-next (format_at c.args.array).data_length c.index_beside-index.result (data_members c.args.array) small) in
     omega (arith, inside)
 
 pub overflow_add-end : goal.overflow_add-end
 overflow_add-end c =
-    let not-parity : let a = c.args in a.member ≢ parity_member a.array a.stripe = λ q. c.if-member-parity.false (q ∙ sym (ap (λ (x : Seat). x.parity) c.requires.seat_value)) in
+    let not_parity : let a = c.args in a.member ≢ parity_member a.array a.stripe = λ q. c.if-member-parity.false (q ∙ sym (ap (λ (x : Seat). x.parity) c.requires.seat_value)) in
     let right : let a = c.args in c.index_beside-index.result ≡ index_at a.array a.stripe a.member = let a = c.args in
     c.index_beside-index.ensures ∙ index_right a.array a.stripe a.seat.parity a.member (ap (λ (x : Seat). x.parity) c.requires.seat_value) in
     let small : c.index_beside-index.result < data_members c.args.array = let a = c.args in
-    rw right (index_below a.array a.stripe a.member (place_sound a.array a.stripe a.member c.requires.member_value).here not-parity) in
+    rw right (index_below a.array a.stripe a.member (place_sound a.array a.stripe a.member c.requires.member_value).here not_parity) in
     let inside : let a = c.args in
     (format_at a.array).data_length * c.index_beside-index.result + (format_at a.array).data_length ≤ length a.content.now = omega (arith, c.requires.content_len, times-next (format_at c.args.array).data_length c.index_beside-index.result (data_members c.args.array) small) in
     omega (arith, inside, c.data_length.ensures, c.data_at-from.ensures)
@@ -63,11 +62,11 @@ block_at-requires c =
 
 pub slice_bounds-put-end : goal.slice_bounds-put-end
 slice_bounds-put-end c =
-    let not-parity : let a = c.args in a.member ≢ parity_member a.array a.stripe = λ q. c.if-member-parity.false (q ∙ sym (ap (λ (x : Seat). x.parity) c.requires.seat_value)) in
+    let not_parity : let a = c.args in a.member ≢ parity_member a.array a.stripe = λ q. c.if-member-parity.false (q ∙ sym (ap (λ (x : Seat). x.parity) c.requires.seat_value)) in
     let right : let a = c.args in c.index_beside-index.result ≡ index_at a.array a.stripe a.member = let a = c.args in
     c.index_beside-index.ensures ∙ index_right a.array a.stripe a.seat.parity a.member (ap (λ (x : Seat). x.parity) c.requires.seat_value) in
     let small : c.index_beside-index.result < data_members c.args.array = let a = c.args in
-    rw right (index_below a.array a.stripe a.member (place_sound a.array a.stripe a.member c.requires.member_value).here not-parity) in
+    rw right (index_below a.array a.stripe a.member (place_sound a.array a.stripe a.member c.requires.member_value).here not_parity) in
     let inside : let a = c.args in
     (format_at a.array).data_length * c.index_beside-index.result + (format_at a.array).data_length ≤ length a.content.now = omega (arith, c.requires.content_len, times-next (format_at c.args.array).data_length c.index_beside-index.result (data_members c.args.array) small) in
     omega (arith, inside, c.data_length.ensures, c.data_at-from.ensures)
@@ -85,11 +84,11 @@ write_tag-requires c =
 
 pub returns : goal.returns
 returns c =
-    let not-parity : let a = c.args in a.member ≢ parity_member a.array a.stripe = λ q. c.if-member-parity.false (q ∙ sym (ap (λ (x : Seat). x.parity) c.requires.seat_value)) in
+    let not_parity : let a = c.args in a.member ≢ parity_member a.array a.stripe = λ q. c.if-member-parity.false (q ∙ sym (ap (λ (x : Seat). x.parity) c.requires.seat_value)) in
     let right : let a = c.args in c.index_beside-index.result ≡ index_at a.array a.stripe a.member = let a = c.args in
     c.index_beside-index.ensures ∙ index_right a.array a.stripe a.seat.parity a.member (ap (λ (x : Seat). x.parity) c.requires.seat_value) in
     let small : c.index_beside-index.result < data_members c.args.array = let a = c.args in
-    rw right (index_below a.array a.stripe a.member (place_sound a.array a.stripe a.member c.requires.member_value).here not-parity) in
+    rw right (index_below a.array a.stripe a.member (place_sound a.array a.stripe a.member c.requires.member_value).here not_parity) in
     let many : c.args.array.members ≤ 16 = (place_sound _ _ _ c.requires.member_value).stripe.array.many in
     let inside : let a = c.args in
     (format_at a.array).data_length * c.index_beside-index.result + (format_at a.array).data_length ≤ length a.content.now = omega (arith, c.requires.content_len, times-next (format_at c.args.array).data_length c.index_beside-index.result (data_members c.args.array) small) in
@@ -106,9 +105,9 @@ returns c =
     ∙ part-guard F a.content.now c.index_beside-index.result (omega (arith, small, many)) ∙ ap (guard F) (sym lent) in
     let written = data_then_tag a.array a.stripe a.member a.data_guard a.bytes.now c.put.new.dst c.write_tag.new.bytes part_of long
     (c.put.ensures ∙ ap (λ (k : ℕ). sets a.bytes.now k part_of) c.block_at.ensures) c.write_tag.ensures in
-    rw (ne_eqb a.member (parity_member a.array a.stripe) not-parity)
+    rw (ne_eqb a.member (parity_member a.array a.stripe) not_parity)
     (written
     ∙ ap (with_block F a.bytes.now a.member)
-    (tagged_by_lem a.array a.stripe a.member parts a.data_guard part_of (own ∙ sym (guard-own a.array a.stripe a.member parts _ (own_data a.array a.stripe a.member not-parity))))
+    (tagged_by_lem a.array a.stripe a.member parts a.data_guard part_of (own ∙ sym (guard-own a.array a.stripe a.member parts _ (own_data a.array a.stripe a.member not_parity))))
     ∙ ap (λ (l : List ℕ). with_block F a.bytes.now a.member (tagged a.array a.stripe a.member parts l))
     (lent ∙ ap (part F.data_length a.content.now) right))

@@ -1,16 +1,11 @@
 -- `stripe::searching::find_amiss` meets its contract. The invariant: the lowest from here on is the lowest of all.
 -- Assumes nothing.
-use mathlib.Core.Path.{◌≡◌, sym, ◌∙◌}
-use Prim.Native.Nat.{◌+◌, ◌-◌, ◌≤◌, ◌<◌}
-use native.Mathlib.Omega.{arith}
-use lib.ListN.{length, drop}
+use mathlib.Core.Path.{◌≡◌}
+use Prim.Native.Nat.{◌+◌, ◌-◌, ◌≤◌}
+use lib.ListN.{drop}
 use Rattle.verdict.specs.Verdicts.{lowest}
-use Rattle.verdict.proofs.Flags.{lowest_miss, lowest_hit, lowest_end}
 use Rattle.stripe.specs.Tables.{table}
 use Rattle.stripe.specs.InPart.{amiss}
-use Rattle.stripe.proofs.Tables.{length-table, get_or-table}
-use Rattle.stripe.proofs.Scrubs.{member_place, member_room}
-use borrow.Author.Rules.{rules}
 use Rattle.stripe.proofs.searching.find_amiss.Given as goal
 
 abbrev pub invariant-loop-member : goal.invariant-loop-member

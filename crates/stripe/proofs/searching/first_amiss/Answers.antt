@@ -4,7 +4,6 @@ use borrow.Author.Tests.{eq-eqb, ne_eqb}
 use lib.ListN.{length}
 use Rattle.stripe.specs.Verdicts.{scrub_refusal}
 use Rattle.stripe.specs.InPart.{first_amiss}
-use borrow.Author.Rules.{rules}
 use Rattle.stripe.proofs.searching.first_amiss.Goals as goal
 
 pub returns-then-scrub_refusal-ne0 : goal.returns-then-scrub_refusal-ne0

@@ -5,7 +5,6 @@ use borrow.Author.Tests.{eq-eqb, ne_eqb}
 use Rattle.layout.specs.declared.Seat.{Seat}
 use Rattle.layout.specs.Places.{parity_member}
 use Rattle.stripe.specs.InPart.{amiss}
-use borrow.Author.Rules.{rules}
 use Rattle.stripe.proofs.searching.is_amiss.Goals as goal
 
 pub returns-then-member-parity : goal.returns-then-member-parity

@@ -11,7 +11,6 @@ use Rattle.stripe.specs.Stripes.{others_data}
 use Rattle.stripe.proofs.Pieces.{sets-whole, one_piece}
 use Rattle.stripe.proofs.Rebuilds.{fitting_by}
 use Rattle.stripe.proofs.Rows.{length-others_data}
-use borrow.Author.Rules.{rules}
 use Rattle.stripe.proofs.serving.carried_into.Goals as goal
 
 pub combined-requires : goal.combined-requires

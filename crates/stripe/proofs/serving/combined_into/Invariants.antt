@@ -1,17 +1,13 @@
 -- `stripe::serving::combined_into` meets its contract. The invariant: the pieces put out so far are those of the combination.
 -- Assumes nothing.
-use mathlib.Core.Path.{◌≡◌, refl, sym, ap, ◌∙◌}
-use mathlib.Core.List.{List}
-use Prim.Native.Nat.{ℕ, ◌+◌, ◌-◌, ◌%◌, ◌≤◌}
-use native.Mathlib.Omega.{arith}
+use mathlib.Core.Path.{◌≡◌}
+use Prim.Native.Nat.{◌-◌, ◌%◌, ◌≤◌}
 use lib.ListN.{length}
-use lib.Seq.{sets, length-sets}
+use lib.Seq.{sets}
 use Rattle.format.specs.Formats.{piece_length}
 use Rattle.format.specs.Methods.{format_of}
 use Rattle.stripe.specs.Tables.{span}
 use Rattle.stripe.specs.Stripes.{others_data}
-use Rattle.stripe.proofs.Pieces.{span_none, span-all, front-next, sets-whole}
-use Rattle.stripe.proofs.Rows.{length-others_data}
 use Rattle.stripe.proofs.serving.combined_into.Given as goal
 
 abbrev pub invariant-loop-from : goal.invariant-loop-from

@@ -3,7 +3,6 @@
 use mathlib.Core.Path.{◌≡◌, refl, sym, ap, ◌∙◌}
 use mathlib.Core.Bool.{Bool, cond}
 use Prim.Native.Nat.{ℕ}
-use borrow.Author.Tests.{not-true, not-false}
 use Rattle.format.specs.Formats.{guards_of}
 use Rattle.layout.proofs.Ranges.{place_sound, sound_stripe}
 use Rattle.tag.specs.Blocks.{format_at}
@@ -11,7 +10,6 @@ use Rattle.stripe.specs.Stripes.{others_data, recoverable}
 use Rattle.stripe.specs.Steps.{fitting}
 use Rattle.stripe.proofs.Carried.{fit_plain}
 use Rattle.stripe.proofs.Served.{cannot_good, serve_by_fit}
-use borrow.Author.Rules.{rules}
 use Rattle.stripe.proofs.serving.made_into.Goals as goal
 
 pub others_good-requires : goal.others_good-requires

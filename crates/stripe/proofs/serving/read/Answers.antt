@@ -3,7 +3,6 @@
 use mathlib.Core.Path.{sym, ap, ◌∙◌}
 use Rattle.layout.specs.Places.{placed_numbers}
 use Rattle.stripe.proofs.Served.{placed_at, placed_sound, read_refused, read-served}
-use borrow.Author.Rules.{rules}
 use Rattle.stripe.proofs.serving.read.Goals as goal
 
 pub serve-requires : goal.serve-requires

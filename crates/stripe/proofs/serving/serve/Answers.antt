@@ -2,10 +2,8 @@
 -- Assumes nothing.
 use mathlib.Core.Path.{◌≡◌, refl, sym, ap, ◌∙◌}
 use mathlib.Core.Bool.{Bool, true, false, cond}
-use Prim.Native.Nat.{ℕ, ◌+◌, ◌*◌, ◌≤◌}
 use native.Mathlib.Omega.{arith}
 use lib.ListN.{length}
-use borrow.Author.Tests.{not-true, not-false}
 use Rattle.tag.specs.Blocks.{format_at}
 use Rattle.tag.specs.Tags.{is_bad}
 use Rattle.tag.proofs.Cases.{good_else}
@@ -13,7 +11,6 @@ use Rattle.stripe.specs.Stripes.{stripe_length, block_of, others_data}
 use Rattle.stripe.specs.Jobs.{stored_bad}
 use Rattle.stripe.proofs.Rooms.{block_room, stripe_small}
 use Rattle.stripe.proofs.Served.{filled_with_data, serve_other_stripe, serve_other_out, serve_stored, serve_rebuilt, serve_damaged}
-use borrow.Author.Rules.{rules}
 use Rattle.stripe.proofs.serving.serve.Goals as goal
 
 pub block_at-requires : goal.block_at-requires

@@ -5,7 +5,6 @@ use lib.Dec.{eqb}
 use Rattle.tag.specs.Blocks.{format_at}
 use Rattle.stripe.specs.Jobs.{guards_agree}
 use Rattle.stripe.proofs.Carried.{others-guards-all}
-use borrow.Author.Rules.{rules}
 use Rattle.stripe.proofs.updating.guards_agree.Goals as goal
 
 pub returns : goal.returns

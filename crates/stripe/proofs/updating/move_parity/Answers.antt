@@ -2,7 +2,7 @@
 -- Assumes nothing.
 use mathlib.Core.Path.{◌≡◌, refl, sym, ap, ap₂, ◌∙◌}
 use mathlib.Core.List.{List}
-use Prim.Native.Nat.{ℕ, ◌+◌, ◌-◌, ◌*◌, ◌%◌, ◌≤◌}
+use Prim.Native.Nat.{ℕ, ◌+◌, ◌*◌, ◌≤◌}
 use native.Mathlib.Omega.{arith}
 use lib.ListN.{length}
 use lib.Seq.{sets, length-sets}
@@ -15,7 +15,6 @@ use Rattle.stripe.specs.Stripes.{block_of}
 use Rattle.stripe.proofs.Pieces.{span_none, span-all, put_next, moved, moved-next}
 use Rattle.stripe.proofs.Rows.{length-span}
 use Rattle.stripe.proofs.Updates.{length_moved}
-use borrow.Author.Rules.{rules}
 use Rattle.stripe.proofs.updating.move_parity.Goals as goal
 
 pub loop-from-init : goal.loop-from-init

@@ -7,7 +7,6 @@ use Rattle.xor.specs.Xors.{xors}
 use Rattle.stripe.specs.Tables.{span}
 use Rattle.stripe.proofs.Pieces.{sets-whole}
 use Rattle.stripe.proofs.Rows.{lent-span, length-span}
-use borrow.Author.Rules.{rules}
 use Rattle.stripe.proofs.updating.moved_piece.Goals as goal
 
 pub returns : goal.returns

@@ -8,12 +8,10 @@ use lib.ListN.{length}
 use lib.Seq.{length-sets}
 use Rattle.layout.specs.declared.Seat.{Seat}
 use Rattle.layout.specs.Places.{parity_member, owner_refusal}
-use Rattle.layout.proofs.Ranges.{place_sound, sound_stripe}
 use Rattle.tag.specs.Blocks.{format_at}
 use Rattle.tag.specs.Tags.{due, tag_bytes}
 use Rattle.stripe.proofs.Pieces.{moved}
 use Rattle.stripe.proofs.Updates.{parity_sound, Inside, inside, replace_refused, replace_done}
-use borrow.Author.Rules.{rules}
 use Rattle.stripe.proofs.updating.replace.Goals as goal
 
 pub returns-then-refusal-ne0 : goal.returns-then-refusal-ne0

@@ -1,6 +1,5 @@
 -- `stripe::updating::replace_in_part` meets its contract. Assumes nothing.
 use Rattle.stripe.proofs.InParts.{part_none, part-own, part-all}
-use borrow.Author.Rules.{rules}
 use Rattle.stripe.proofs.updating.replace_in_part.Goals as goal
 
 pub returns-then-stores-eq0 : goal.returns-then-stores-eq0

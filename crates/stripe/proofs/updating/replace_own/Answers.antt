@@ -3,12 +3,10 @@ use mathlib.Core.Path.{sym, ap, ◌∙◌}
 use Prim.Native.Nat.{ℕ}
 use borrow.Author.Tests.{eq-eqb, ne_eqb}
 use lib.ListN.{length}
-use Rattle.layout.proofs.Ranges.{place_sound, sound_stripe}
 use Rattle.tag.specs.Blocks.{format_at}
 use Rattle.tag.specs.Tags.{tagged_by}
 use Rattle.stripe.specs.Jobs.{with_block}
 use Rattle.stripe.proofs.Updates.{inside}
-use borrow.Author.Rules.{rules}
 use Rattle.stripe.proofs.updating.replace_own.Goals as goal
 
 pub returns-then-number-ne0 : goal.returns-then-number-ne0

@@ -6,7 +6,6 @@ use mathlib.Core.List.{List}
 use Prim.Native.Nat.{ℕ}
 use native.Mathlib.Omega.{arith}
 use lib.ListN.{length}
-use borrow.Author.Tests.{not-true, not-false}
 use Rattle.layout.specs.declared.Array.{Array}
 use Rattle.layout.specs.declared.Seat.{Seat}
 use Rattle.layout.specs.Places.{parity_member, owner_refusal}
@@ -15,7 +14,6 @@ use Rattle.stripe.specs.Stripes.{stripe_length}
 use Rattle.stripe.specs.Jobs.{stored_good}
 use Rattle.stripe.proofs.Rooms.{block_room, stripe_small}
 use Rattle.stripe.proofs.Updates.{parity_sound, replace_other_stripe, replace_other_data, replace_bad, replace_bad-parity, replace_unsettled, replace_taken}
-use borrow.Author.Rules.{rules}
 use Rattle.stripe.proofs.updating.replace_refusal.Goals as goal
 
 -- both blocks are good

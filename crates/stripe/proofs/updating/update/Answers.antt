@@ -1,7 +1,6 @@
 -- `stripe::updating::update` meets its contract: both stores of an update in part. Assumes nothing.
 use mathlib.Core.Path.{◌∙◌}
 use Rattle.stripe.proofs.InParts.{part-whole}
-use borrow.Author.Rules.{rules}
 use Rattle.stripe.proofs.updating.update.Goals as goal
 
 pub returns : goal.returns

@@ -6,7 +6,6 @@ use Rattle.layout.specs.Places.{parity_member, is_parity, stripe_of, member_of, 
 use Rattle.layout.proofs.Bijection.{parity_no_block}
 use Rattle.stripe.proofs.Served.{placed_at, placed_sound}
 use Rattle.stripe.proofs.InParts.{part_by_place, part-updated}
-use borrow.Author.Rules.{rules}
 use Rattle.stripe.proofs.updating.update_in_part.Goals as goal
 
 pub replace_in_part-requires : goal.replace_in_part-requires

@@ -3,7 +3,6 @@
 use mathlib.Core.Path.{sym, ap, ◌∙◌}
 use mathlib.Core.List.{[], ◌∷◌}
 use Prim.Native.Nat.{ℕ}
-use borrow.Author.Rules.{rules}
 use Rattle.verdict.proofs.QuickWide.{wide_refused, wide_fits, wide_differs}
 use Rattle.verdict.proofs.wide.quick_scrub_wide.Goals as goal
 

@@ -4,12 +4,11 @@ use mathlib.Core.Path.{◌≡◌, ap, ◌∙◌}
 use Prim.Native.Nat.{ℕ, ◌*◌, ◌/◌, ◌≤◌, ◌<◌}
 use native.Mathlib.Nat.{zero-mul, mul_comm, le-div_iff_mul-le, div-lt_iff_lt-mul}
 use native.Mathlib.Omega.{arith}
-use borrow.Author.Rules.{rules}
 use Rattle.castagnoli_fold.proofs.calls.many.begin.Goals as goal
 
 -- k strides are not past the end, or are
-not-past : (k stride end : ℕ) → 0 < k → stride ≤ end / k → k * stride ≤ end
-not-past k stride end h l = rw (mul_comm k stride) ((le-div_iff_mul-le h).0 l)
+not_past : (k stride end : ℕ) → 0 < k → stride ≤ end / k → k * stride ≤ end
+not_past k stride end h l = rw (mul_comm k stride) ((le-div_iff_mul-le h).0 l)
 
 past : (k stride end : ℕ) → 0 < k → end / k < stride → end < k * stride
 past k stride end h l = rw (mul_comm k stride) ((div-lt_iff_lt-mul h).0 l)
@@ -22,13 +21,13 @@ returns-then-k-eq0 c =
 pub overflow_mul-result : goal.overflow_mul-result
 overflow_mul-result c =
     let a = c.args in
-    let few = not-past a.k a.stride a.end (omega arith) c.if-stride-end.true in
+    let few = not_past a.k a.stride a.end (omega arith) c.if-stride-end.true in
     omega arith
 
 pub returns-then-stride-end : goal.returns-then-stride-end
 returns-then-stride-end c =
     let a = c.args in
-    let few = not-past a.k a.stride a.end (omega arith) c.if-stride-end.true in
+    let few = not_past a.k a.stride a.end (omega arith) c.if-stride-end.true in
     omega arith
 
 pub returns-else-stride-end : goal.returns-else-stride-end

@@ -1,11 +1,10 @@
 -- `castagnoli_fold::calls::many::guards` meets its contract. The invariant: the first m checks are known, and the next run begins at `at`.
 -- Assumes nothing.
 use mathlib.Core.Path.{◌≡◌, ap, ◌∙◌}
-use Prim.Native.Nat.{ℕ, ◌-◌, ◌*◌, ◌≤◌, min}
+use Prim.Native.Nat.{ℕ, ◌*◌}
 use native.Mathlib.Omega.{arith}
 use lib.ListN.{length, take, drop, length-set}
 use Rattle.castagnoli.specs.Castagnoli.{crc32c}
-use Rattle.castagnoli_fold.specs.Many.{Known}
 use Rattle.castagnoli_rows.proofs.Puts.{set_more}
 use Rattle.castagnoli_fold.proofs.Strides.{rest_of, next-run, guards_of_each}
 use borrow.Author.Rules.{rules}

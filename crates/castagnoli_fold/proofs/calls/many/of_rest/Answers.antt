@@ -7,7 +7,6 @@ use lib.ListN.{length}
 use Rattle.castagnoli.specs.Castagnoli.{start, advance, guard_of, crc32c}
 use Rattle.castagnoli.proofs.Joined.{advance-nil}
 use Rattle.castagnoli_fold.proofs.Strides.{none_left}
-use borrow.Author.Rules.{rules}
 use Rattle.castagnoli_fold.proofs.calls.many.of_rest.Goals as goal
 
 pub returns-then-bytes-eq0 : goal.returns-then-bytes-eq0

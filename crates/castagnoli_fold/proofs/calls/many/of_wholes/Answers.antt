@@ -7,9 +7,6 @@ use native.Mathlib.Omega.{arith}
 use lib.ListN.{length, take, drop, length-drop, length-set}
 use lib.Seq.{length-take-le}
 use Rattle.castagnoli.specs.Castagnoli.{start, advance, guard_of, crc32c}
-use Rattle.castagnoli_rows.specs.Folds.{Ready}
-use Rattle.castagnoli_fold.specs.Heads.{head_of}
-use Rattle.castagnoli_fold.specs.Many.{Known}
 use Rattle.castagnoli_rows.proofs.Folding.{zeros-at}
 use Rattle.castagnoli_rows.proofs.Puts.{set_more}
 use borrow.Author.Rules.{rules}

@@ -1,18 +1,11 @@
 -- `castagnoli_fold::calls::many::of_wholes` meets its contract. The invariant: the buffer is ready, and the checks stored so far are known.
 -- Assumes nothing.
-use mathlib.Core.Path.{◌≡◌, refl, ap, ap₂, ◌∙◌}
-use mathlib.Core.List.{List}
-use Prim.Native.Nat.{ℕ, ◌+◌, ◌-◌, ◌*◌, ◌≤◌}
-use native.Mathlib.Omega.{arith}
-use lib.ListN.{length, take, drop, length-drop, length-set}
-use lib.Seq.{length-take-le}
-use Rattle.castagnoli.specs.Castagnoli.{start, advance, guard_of, crc32c}
+use mathlib.Core.Path.{◌≡◌}
+use Prim.Native.Nat.{◌-◌, ◌≤◌}
+use lib.ListN.{length}
 use Rattle.castagnoli_rows.specs.Folds.{Ready}
 use Rattle.castagnoli_fold.specs.Heads.{head_of}
 use Rattle.castagnoli_fold.specs.Many.{Known}
-use Rattle.castagnoli_rows.proofs.Folding.{zeros-at}
-use Rattle.castagnoli_rows.proofs.Puts.{set_more}
-use borrow.Author.Rules.{rules}
 use Rattle.castagnoli_fold.proofs.calls.many.of_wholes.Given as goal
 
 abbrev pub invariant-loop-k : goal.invariant-loop-k

@@ -6,7 +6,6 @@ use native.Mathlib.Omega.{arith}
 use mathlib.Core.Path.{sym, subst}
 use Rattle.castagnoli_fold.specs.Many.{Whole}
 use Rattle.castagnoli_fold.proofs.Strides.{all_whole, some-whole}
-use borrow.Author.Rules.{rules}
 use Rattle.castagnoli_fold.proofs.calls.many.whole.Goals as goal
 
 pub returns-then-stride-eq0 : goal.returns-then-stride-eq0

@@ -1,13 +1,10 @@
 -- `fold::lanes::calls::by_few` meets its contract. The invariant: the bytes still to come, from the register now, give what all give from
 -- the first.
 -- Assumes nothing.
-use mathlib.Core.Path.{◌≡◌, ap, ◌∙◌}
-use Prim.Native.Nat.{ℕ, ◌+◌, ◌-◌, ◌≤◌}
-use native.Mathlib.Omega.{arith}
+use mathlib.Core.Path.{◌≡◌}
+use Prim.Native.Nat.{◌-◌, ◌≤◌}
 use lib.ListN.{length, drop}
 use Rattle.crc.specs.Guard.{run}
-use Rattle.fold.proofs.Wordwise.{few-turn, few-last, few-none}
-use borrow.Author.Rules.{rules}
 use Rattle.fold.proofs.lanes.calls.by_few.Given as goal
 
 abbrev pub invariant-loop-i : goal.invariant-loop-i

@@ -1,13 +1,12 @@
 -- `fold::lanes::calls::by_words` meets its contract. The invariant: the bytes still to come, from what the word leaves, give what all give
 -- from the register.
 -- Assumes nothing.
-use mathlib.Core.Path.{◌≡◌, ap, ap₂, ◌∙◌}
-use Prim.Native.Nat.{ℕ, ◌+◌, ◌-◌, ◌≤◌}
+use mathlib.Core.Path.{ap₂, ◌∙◌}
+use Prim.Native.Nat.{◌-◌}
 use native.Mathlib.Omega.{arith}
 use lib.ListN.{length, drop, length-drop}
 use lib.Seq.{take_all}
 use Rattle.crc.specs.Guard.{run}
-use Rattle.words.specs.Words.{rest}
 use Rattle.fold.proofs.Wordwise.{word_first, word-turn}
 use borrow.Author.Rules.{rules}
 use Rattle.fold.proofs.lanes.calls.by_words.Goals as goal

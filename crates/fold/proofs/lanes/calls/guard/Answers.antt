@@ -1,7 +1,6 @@
 -- `fold::lanes::calls::guard` meets its contract.
 -- Assumes nothing.
 use Rattle.crc.specs.Guard.{guard}
-use borrow.Author.Rules.{rules}
 use Rattle.fold.proofs.lanes.calls.guard.Goals as goal
 
 pub returns : goal.returns

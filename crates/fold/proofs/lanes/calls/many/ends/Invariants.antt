@@ -1,12 +1,9 @@
 -- `fold::lanes::calls::many::ends` meets its contract. The invariant: the first m guards are there.
 -- Assumes nothing.
-use mathlib.Core.Path.{◌≡◌, ◌∙◌}
+use mathlib.Core.Path.{◌≡◌}
 use Prim.Native.Nat.{ℕ, ◌-◌, ◌≤◌, ◌<◌}
-use native.Mathlib.Omega.{arith}
-use lib.ListN.{length, get_or, length-set}
+use lib.ListN.{length, get_or}
 use Rattle.words.specs.Words.{rest}
-use Rattle.fold.proofs.Stored.{set_more}
-use borrow.Author.Rules.{rules}
 use Rattle.fold.proofs.lanes.calls.many.ends.Given as goal
 
 abbrev pub invariant-loop-m : goal.invariant-loop-m

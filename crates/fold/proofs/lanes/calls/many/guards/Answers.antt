@@ -1,12 +1,11 @@
 -- `fold::lanes::calls::many::guards` meets its contract. The invariant: the first m guards are known, the others are 0, and the next run begins
 -- at `at`. Assumes nothing.
-use mathlib.Core.Path.{◌≡◌, ap, sym, ◌∙◌}
-use Prim.Native.Nat.{ℕ, ◌+◌, ◌-◌, ◌*◌, ◌≤◌, ◌<◌, min}
+use mathlib.Core.Path.{◌≡◌, ap, ◌∙◌}
+use Prim.Native.Nat.{ℕ, ◌*◌}
 use native.Mathlib.Omega.{arith}
-use lib.ListN.{length, get_or, take, drop, length-set}
+use lib.ListN.{length, take, drop, length-set}
 use lib.Seq.{get_or-set_other}
 use Rattle.crc.specs.Guard.{guard}
-use Rattle.fold.specs.Many.{Known}
 use Rattle.fold.proofs.Stored.{set_more}
 use Rattle.fold.proofs.Strides.{rest_of, next-run, known-all, guards_of_each}
 use borrow.Author.Rules.{rules}
@@ -32,13 +31,13 @@ loop-m-preserved c =
     let inv = at.invariant in
     let bytes = a.bytes.now in
     let m = at.m in
-    let g = c.guard.result in (
+    let g = c.of_rest.result in (
       omega arith,
       omega arith,
       c.further-at.ensures ∙ next-run m a.stride at.at (length bytes) inv.2,
       length-set at.out m g ∙ inv.3,
       set_more (λ (k x : ℕ). x ≡ guard (take 512 (drop (k * a.stride) bytes))) at.out m g (omega arith) inv.4
-          (c.guard.ensures ∙ ap guard (rest_of bytes m a.stride at.at inv.2 (c.whole-count.ensures.past m inv.0 (omega arith)))),
+          (c.of_rest.ensures ∙ ap guard (rest_of bytes m a.stride at.at inv.2 (c.whole-count.ensures.past m inv.0 (omega arith)))),
       λ k h below. get_or-set_other at.out m k g 0 (λ e. omega arith) ∙ inv.5 k (omega arith) below,
     )
 

@@ -1,15 +1,9 @@
 -- `fold::lanes::calls::many::guards` meets its contract. The invariant: the first m guards are known, the others are 0, and the next run begins
 -- at `at`. Assumes nothing.
-use mathlib.Core.Path.{◌≡◌, ap, sym, ◌∙◌}
-use Prim.Native.Nat.{ℕ, ◌+◌, ◌-◌, ◌*◌, ◌≤◌, ◌<◌, min}
-use native.Mathlib.Omega.{arith}
-use lib.ListN.{length, get_or, take, drop, length-set}
-use lib.Seq.{get_or-set_other}
-use Rattle.crc.specs.Guard.{guard}
+use mathlib.Core.Path.{◌≡◌}
+use Prim.Native.Nat.{ℕ, ◌-◌, ◌*◌, ◌≤◌, ◌<◌, min}
+use lib.ListN.{length, get_or}
 use Rattle.fold.specs.Many.{Known}
-use Rattle.fold.proofs.Stored.{set_more}
-use Rattle.fold.proofs.Strides.{rest_of, next-run, known-all, guards_of_each}
-use borrow.Author.Rules.{rules}
 use Rattle.fold.proofs.lanes.calls.many.guards.Given as goal
 
 abbrev pub invariant-loop-m : goal.invariant-loop-m

@@ -1,9 +1,9 @@
 -- `fold::lanes::calls::many::joins` meets its contract. The invariant: the first m are joined.
 -- Assumes nothing.
 use mathlib.Core.Path.{◌≡◌, ◌∙◌}
-use Prim.Native.Nat.{ℕ, ◌+◌, ◌-◌, ◌*◌, ◌≤◌, ◌<◌}
+use Prim.Native.Nat.{ℕ, ◌+◌, ◌*◌}
 use native.Mathlib.Omega.{arith}
-use lib.ListN.{length, get_or, length-set}
+use lib.ListN.{get_or, length-set}
 use Rattle.words.specs.Words.{rest}
 use Rattle.words.specs.Steps.{quad}
 use Rattle.fold.proofs.Stored.{set_more}

@@ -1,13 +1,10 @@
 -- `fold::lanes::calls::many::joins` meets its contract. The invariant: the first m are joined.
 -- Assumes nothing.
-use mathlib.Core.Path.{◌≡◌, ◌∙◌}
+use mathlib.Core.Path.{◌≡◌}
 use Prim.Native.Nat.{ℕ, ◌+◌, ◌-◌, ◌*◌, ◌≤◌, ◌<◌}
-use native.Mathlib.Omega.{arith}
-use lib.ListN.{length, get_or, length-set}
+use lib.ListN.{length, get_or}
 use Rattle.words.specs.Words.{rest}
 use Rattle.words.specs.Steps.{quad}
-use Rattle.fold.proofs.Stored.{set_more}
-use borrow.Author.Rules.{rules}
 use Rattle.fold.proofs.lanes.calls.many.joins.Given as goal
 
 abbrev pub invariant-loop-m : goal.invariant-loop-m

@@ -10,19 +10,18 @@ use Rattle.crc.specs.Guard.{guard}
 use Rattle.words.specs.Words.{rest}
 use Rattle.words.specs.Steps.{quad}
 use Rattle.fold.proofs.Quads.{quad-none}
-use borrow.Author.Rules.{rules}
 use Rattle.fold.proofs.lanes.calls.many.of_wholes.Goals as goal
 
 -- nothing leaves nothing
-rest-none : rest 0 ≡ 0
+rest_none : rest 0 ≡ 0
 unfolding rest feed bits bit_step
-rest-none = refl
+rest_none = refl
 
 -- where no lanes were stored, they come to nothing
-none-behind : (words : List ℕ) (count : ℕ) → ((j : ℕ) → 4 * count ≤ j → get_or words j 0 ≡ get_or (replicate 64 0) j 0) → (k : ℕ) → count ≤ k → k < 16
+none_behind : (words : List ℕ) (count : ℕ) → ((j : ℕ) → 4 * count ≤ j → get_or words j 0 ≡ get_or (replicate 64 0) j 0) → (k : ℕ) → count ≤ k → k < 16
     → quad (rest (get_or words (4 * k) 0)) (rest (get_or words (4 * k + 1) 0)) (rest (get_or words (4 * k + 2) 0)) (rest (get_or words (4 * k + 3) 0)) ≡ 0
-none-behind words count same k h below =
-    rw (at (4 * k) (omega arith) (omega arith), at (4 * k + 1) (omega arith) (omega arith), at (4 * k + 2) (omega arith) (omega arith), at (4 * k + 3) (omega arith) (omega arith), rest-none) quad-none
+none_behind words count same k h below =
+    rw (at (4 * k) (omega arith) (omega arith), at (4 * k + 1) (omega arith) (omega arith), at (4 * k + 2) (omega arith) (omega arith), at (4 * k + 3) (omega arith) (omega arith), rest_none) quad-none
   where
     at : (j : ℕ) → 4 * count ≤ j → j < 64 → get_or words j 0 ≡ 0
     at j g few = same j g ∙ get_or-replicate 64 j 0 0 few
@@ -33,5 +32,5 @@ returns c =
     let few = c.requires.0 in
     let come = c.columns.ensures in record {
       known = λ l h. c.ends.ensures l (omega arith) ∙ c.joins.ensures l (omega arith) ∙ come.out_len_unchanged.1 l h;
-      by_index = λ k h below. c.ends.ensures k below ∙ c.joins.ensures k below ∙ none-behind c.columns.new.out c.args.count come.by_index_2 k h below;
+      by_index = λ k h below. c.ends.ensures k below ∙ c.joins.ensures k below ∙ none_behind c.columns.new.out c.args.count come.by_index_2 k h below;
     }

@@ -6,7 +6,6 @@ use native.Mathlib.Omega.{arith}
 use mathlib.Core.Path.{sym, subst}
 use Rattle.fold.specs.Many.{Whole}
 use Rattle.fold.proofs.Strides.{all_whole, some-whole}
-use borrow.Author.Rules.{rules}
 use Rattle.fold.proofs.lanes.calls.many.whole.Goals as goal
 
 pub returns-then-stride-eq0 : goal.returns-then-stride-eq0
