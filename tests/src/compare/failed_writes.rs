@@ -22,8 +22,6 @@ const TOLD: &str =
 const ROOM: usize = 200 << 10;
 /// How many bytes are offered to a program that is to stop: much more than it may hold.
 const OFFERED: usize = 32 << 20;
-/// The signal of a pipe that nobody reads.
-const BROKEN_PIPE: i32 = 13;
 
 /// The program as a shell starts it. Some words do what a shell can do to a child: close its outputs, limit what it may write, or have a signal
 /// ignored that would end it.
@@ -126,12 +124,12 @@ fn nothing_written(random: &mut Random) -> Outcome<usize> {
     Ok(4 * ways.len())
 }
 
-/// A pipe that nobody reads, and the signal is not ignored: it ends the program, which has listed nothing.
-fn ended_by_signal() -> Outcome<usize> {
+/// A pipe that nobody reads, started with the signal as it is: the program ignores it from its start, and tells.
+fn unread_pipe() -> Outcome<usize> {
     let mut child = started("", Stdio::piped(), Stdio::piped())?;
     drop(child.stdout.take());
     let (list, taken, signal) = listed(child, &endless())?;
-    known(("", false, Some(BROKEN_PIPE)), (&list, taken, signal))?;
+    known((TOLD, false, None), (&list, taken, signal))?;
     Ok(1)
 }
 
@@ -232,7 +230,7 @@ fn no_list(random: &mut Random) -> Outcome<usize> {
 pub fn compare(random: &mut Random) -> Outcome<String> {
     let tried = [
         nothing_written(random)?,
-        ended_by_signal()?,
+        unread_pipe()?,
         written_in_part(random)?,
         no_list(random)?,
     ];
