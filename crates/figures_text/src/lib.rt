@@ -9,6 +9,7 @@ use std::io;
 use std::io::Write;
 
 // A name, and a decimal number after it.
+/// After an error the writer may hold a beginning of it.
 pub fn named<W: Write>(out: &mut W, name: &[u8], number: u64) -> io::Result<()>
     ensures { OnOk result (Appends (W.contents out.old) (W.contents out.new) (name.now ++ decimal number)) }
 {
@@ -17,6 +18,7 @@ pub fn named<W: Write>(out: &mut W, name: &[u8], number: u64) -> io::Result<()>
 }
 
 // One line: what is given, and its guard.
+/// After an error the writer may hold a beginning of it.
 pub fn guard_line<W: Write>(out: &mut W, given: &[u8], guard: u16) -> io::Result<()>
     ensures { OnOk result (Appends (W.contents out.old) (W.contents out.new) (guard_line given.now guard)) }
 {
