@@ -33,7 +33,7 @@ impl From<io::Error> for Stop {
     }
 }
 
-// Writes bytes of the image, and then lines of the list.
+// Writes bytes of the image, and then lines of the list. After an error both may hold a beginning of theirs.
 fn put_out<I: Write, L: Write>(
     bytes: &[u8],
     lines: &[u8],
@@ -50,7 +50,8 @@ fn put_out<I: Write, L: Write>(
     Ok(())
 }
 
-// Feeds the repair with a piece of input until it is used up, and writes out what each feed gives.
+// Feeds the repair with a piece of input until it is used up, and writes out what each feed gives. After an error the outputs may hold a beginning of
+// theirs, and the buffers anything.
 fn pass<I: Write, L: Write>(
     repair: Repair,
     input: &[u8],
@@ -78,7 +79,7 @@ fn pass<I: Write, L: Write>(
     Ok(state)
 }
 
-// Closes the repair, and writes out the list's last line.
+// Closes the repair, and writes out the list's last line, or after an error perhaps a beginning of it.
 fn end<L: Write>(repair: Repair, lines: &mut [u8], list: &mut L) -> Result<(), Stop>
     ensures { OnOk result (Appends (L.contents list.old) (L.contents list.new) (closing repair (length lines.old))) }
 {
@@ -87,7 +88,7 @@ fn end<L: Write>(repair: Repair, lines: &mut [u8], list: &mut L) -> Result<(), S
     Ok(())
 }
 
-// Reads an image to its end, and writes the mended image and the list. The loop has turns for any image: a byte a turn.
+// Reads an image to its end, and writes the mended image and the list, or after an error perhaps a beginning of each. The loop has turns for any image: a byte a turn.
 fn mend<R: Read, I: Write, L: Write>(
     image: &mut R,
     mended: &mut I,

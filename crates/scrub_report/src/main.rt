@@ -21,7 +21,8 @@ const INPUT: usize = 65536;
 // Room for the lines of one fill: four of the longest.
 const LINES: usize = 512;
 
-// Fills the report with a piece of input until it is used up, and writes out the lines of each fill.
+// Fills the report with a piece of input until it is used up, and writes out the lines of each fill. After an error the writer may hold a beginning of
+// them, and the buffers anything.
 fn pass<W: Write>(
     report: Report,
     input: &[u8],
@@ -47,7 +48,7 @@ fn pass<W: Write>(
     Ok(state)
 }
 
-// Closes the report, and writes out its last line.
+// Closes the report, and writes out its last line, or after an error perhaps a beginning of it.
 fn end<W: Write>(report: Report, lines: &mut [u8], out: &mut W) -> io::Result<()>
     ensures { OnOk result (Appends (W.contents out.old) (W.contents out.new) (close_line report (length lines.old))) }
 {
@@ -55,7 +56,7 @@ fn end<W: Write>(report: Report, lines: &mut [u8], out: &mut W) -> io::Result<()
     out.write_all(&lines[..last])
 }
 
-// Reads an image to its end, and writes its report. The loop has turns for any image: a byte a turn.
+// Reads an image to its end, and writes its report, or after an error perhaps a beginning of it. The loop has turns for any image: a byte a turn.
 fn scrub<R: Read, W: Write>(image: &mut R, out: &mut W) -> io::Result<()>
     ensures { OnOk result (IfSome (R.remaining image.old) (λ bytes. length bytes < u64.MAX → Appends (W.contents out.old) (W.contents out.new) (report_of bytes))) }
 {
