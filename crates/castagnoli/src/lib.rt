@@ -5,7 +5,7 @@
 mod first;
 mod last;
 
-ghost use Rattle.std.specs.Prelude.{◌≡◌, get_or};
+ghost use Rattle.std.specs.Prelude.{◌≡◌};
 ghost use Rattle.castagnoli.specs.Castagnoli.{start, advance, guard_of};
 ghost use Rattle.castagnoli.specs.Tables.{look_one, look_two, look_run};
 
@@ -26,42 +26,38 @@ pub fn guard_of(register: u32) -> u32
     register ^ 0xFFFFFFFF
 }
 
-// What a table holds for a byte.
-fn look(table: &[u32; 256], byte: u8) -> u32
-    ensures { result ≡ get_or table.now byte 0 }
-{
-    table[byte as usize]
-}
-
 // What one table makes of a register and a byte.
+#[tactic(auto, unfolding(crate::specs::Tables::look_one))]
 fn one(last: &[u32; 256], register: u32, byte: u8) -> u32
     ensures { result ≡ look_one last.now register byte }
 {
-    register / 256 ^ look(last, (register % 256) as u8 ^ byte)
+    let [lowest, ..] = register.to_le_bytes();
+    register / 256 ^ last[usize::from(lowest ^ byte)]
 }
 
 // What two tables make of a register and two bytes.
+#[tactic(auto, unfolding(crate::specs::Tables::look_two))]
 fn two(first: &[u32; 256], last: &[u32; 256], register: u32, a: u8, b: u8) -> u32
     ensures { result ≡ look_two first.now last.now register a b }
 {
-    register / 65536
-        ^ (look(first, (register % 256) as u8 ^ a) ^ look(last, (register / 256 % 256) as u8 ^ b))
+    let [lowest, next, ..] = register.to_le_bytes();
+    register / 65536 ^ (first[usize::from(lowest ^ a)] ^ last[usize::from(next ^ b)])
 }
 
 // What they make of a register and a run of bytes, two at a time.
+// Stays: `table::through` has the same loop over other steps. Tried: one loop over a trait of the two steps; a crate may not give `u32` another crate's trait, so each check wants a type of its own, three ghost members and a law, more than the nine lines that they would share.
 pub fn through(first: &[u32; 256], last: &[u32; 256], register: u32, bytes: &[u8]) -> u32
     ensures { result ≡ look_run first.now last.now register bytes.now }
 {
     let mut after = register;
-    let mut i: usize = 0;
-    while 1 < bytes.len() - i {
-        after = two(first, last, after, bytes[i], bytes[i + 1]);
-        i += 2;
+    let mut left = bytes;
+    while let [a, b, rest @ ..] = left {
+        after = two(first, last, after, *a, *b);
+        left = rest;
     }
-    if i < bytes.len() {
-        one(last, after, bytes[i])
-    } else {
-        after
+    match left {
+        [a] => one(last, after, *a),
+        _ => after,
     }
 }
 

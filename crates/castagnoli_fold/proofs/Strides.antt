@@ -1,79 +1,59 @@
--- Runs at equal distances: which are whole, and their checks as a list.
--- Assumes nothing.
-use mathlib.Core.Path.{◌≡◌, refl, sym, ap, ◌∙◌}
-use mathlib.Core.List.{List, [], ◌∷◌}
-use Prim.Native.Nat.{ℕ, zero, suc, ◌+◌, ◌-◌, ◌*◌, ◌/◌, ◌≤◌, ◌<◌, min}
-use native.Mathlib.Nat.{le_refl, zero-mul, suc-mul, mul-zero, le-div_iff_mul-le, div-lt_iff_lt-mul, le_of_suc-le-suc, not-suc-le-zero}
+-- Runs at equal distances: how their checks follow one another. Assumes nothing.
+use mathlib.Core.Path.{◌≡◌, refl, sym, ap, ap₂, ◌∙◌}
+use mathlib.Core.List.{List, [], ◌∷◌, ◌++◌, append-nil}
+use Prim.Native.Nat.{ℕ, zero, suc, ◌+◌, ◌-◌, ◌≤◌, ◌<◌, min}
+use native.Mathlib.Numerals.{add-one}
 use native.Mathlib.Decide.{dec_le}
 use native.Mathlib.Omega.{arith}
-use lib.ListN.{length, get_or, take, drop, drop_of_length-le, length-drop}
-use lib.Seq.{ext_get_or, take_all, drop-drop}
-use Rattle.castagnoli.specs.Castagnoli.{crc32c}
+use lib.ListN.{length, take, drop, set, drop_of_length-le, length-drop, replicate, take-append-drop}
+use lib.Seq.{take_all, take-suc-set, drop-drop, drop-nil, drop-set-lt, append_snoc}
+use Rattle.castagnoli.specs.Castagnoli.{start, guard_of, crc32c}
+use Rattle.castagnoli.proofs.Joined.{advance-nil}
 use Rattle.castagnoli.specs.Blocks.{guards_of}
-use Rattle.castagnoli_fold.specs.Many.{Whole, Known}
 
--- ---- how many are whole
-
-pub all_whole : (stride end : ℕ) → stride ≡ 0 → 4096 ≤ end → Whole stride end 16
-all_whole stride end e h =
-    let at : (k : ℕ) → k * stride ≡ 0 = (λ k. ap (λ (s : ℕ). k * s) e ∙ mul-zero k) in
-    record {
-      few = omega arith;
-      within = λ k g. omega (arith, at k);
-      past = λ k g l. absurd (omega arith);
-    }
-
-pub some-whole : (stride end : ℕ) → 0 < stride → 4096 ≤ end → Whole stride end (min 16 ((end - 4096) / stride + 1))
-some-whole stride end s h =
-    record {
-      few = omega arith;
-      within = λ k g. let few : k ≤ (end - 4096) / stride = omega arith in omega (arith, (le-div_iff_mul-le s).0 few);
-      past = λ k g l. let more : (end - 4096) / stride < k = omega arith in omega (arith, (div-lt_iff_lt-mul s).0 more);
-    }
-
--- ---- where they begin
-
-drop_further : (bytes : List ℕ) (n : ℕ) → drop (min n (length bytes)) bytes ≡ drop n bytes
-drop_further bytes n = go (dec_le n (length bytes))
+-- a stride on, and not past the end
+pub stride_on : (l : List ℕ) (stride cut : ℕ) → cut ≡ min (length l) stride → take (length l - cut) (drop cut l) ≡ drop stride l
+stride_on l stride cut e = take_all (length l - cut) (drop cut l) (rw (length-drop cut l) (omega arith)) ∙ go (dec_le stride (length l))
   where
-    go : Dec (n ≤ length bytes) → drop (min n (length bytes)) bytes ≡ drop n bytes
-    go (yes l) = let e : min n (length bytes) ≡ n = omega arith in ap (λ (k : ℕ). drop k bytes) e
-    go (no l) =
-        let e : min n (length bytes) ≡ length bytes = omega arith in
-        let over : length bytes ≤ n = omega arith in
-        ap (λ (k : ℕ). drop k bytes) e ∙ drop_of_length-le bytes (le_refl (length bytes)) ∙ sym (drop_of_length-le bytes over)
+    go : Dec (stride ≤ length l) → drop cut l ≡ drop stride l
+    go (yes h) = let same : cut ≡ stride = omega arith in ap (λ (k : ℕ). drop k l) same
+    go (no h) =
+        let here : length l ≤ cut = omega arith in
+        let there : length l ≤ stride = omega arith in
+        drop_of_length-le l here ∙ sym (drop_of_length-le l there)
 
-pub none_left : (bytes : List ℕ) → length bytes ≡ 0 → bytes ≡ []
-none_left [] h = refl
-none_left (x ∷ bytes) h = absurd (omega arith)
-
--- a run that is not whole has all the bytes that are left
-pub rest_of : (bytes : List ℕ) (m stride n : ℕ) → n ≡ min (m * stride) (length bytes) → length bytes < m * stride + 4096
-    → take (length bytes - n) (drop n bytes) ≡ take 4096 (drop (m * stride) bytes)
-rest_of bytes m stride n e h =
-    take_all (length bytes - n) (drop n bytes) (rw (length-drop n bytes) (le_refl (length bytes - n))) ∙ ap (λ (x : ℕ). drop x bytes) e ∙ drop_further bytes (m * stride)
-    ∙ sym (take_all 4096 (drop (m * stride) bytes) (rw (length-drop (m * stride) bytes) (omega arith)))
-
-pub next-run : (m stride at end : ℕ) → at ≡ min (m * stride) end → min (at + stride) end ≡ min ((m + 1) * stride) end
-next-run m stride at end e = let more : (m + 1) * stride ≡ m * stride + stride = omega (arith, suc-mul m stride) in omega arith
-
--- ---- their checks
-
-length-guards_of : (n stride : ℕ) (bytes : List ℕ) → length (guards_of n stride bytes) ≡ n
+-- the loop over the runs: one more, and its end
+pub guards_turn : (out l : List ℕ) (stride n m g : ℕ) → m < length out → m < n → g ≡ crc32c (take 4096 l)
+    → take (m + 1) (set out m g) ++ guards_of (n - (m + 1)) stride (drop stride l) ≡ take m out ++ guards_of (n - m) stride l
 unfolding guards_of
-length-guards_of zero stride bytes = refl
-length-guards_of (suc n) stride bytes = ap suc (length-guards_of n stride (drop stride bytes))
+guards_turn out l stride n m g h less f =
+    let one : n - m ≡ suc (n - (m + 1)) = omega arith in
+    rw (one, ← f, add-one, take-suc-set) (append_snoc (take m out) g (guards_of (n - suc m) stride (drop stride l)))
 
-guards_of-at : (n stride : ℕ) (bytes : List ℕ) (l : ℕ) → l < n → get_or (guards_of n stride bytes) l 0 ≡ crc32c (take 4096 (drop (l * stride) bytes))
+pub guards_end : (out rest : List ℕ) (stride n m : ℕ) → length out ≡ n → n ≤ m → take m out ++ guards_of (n - m) stride rest ≡ out
 unfolding guards_of
-guards_of-at zero stride bytes l h = absurd (not-suc-le-zero h)
-guards_of-at (suc n) stride bytes zero h = ap (λ (k : ℕ). crc32c (take 4096 (drop k bytes))) (sym (zero-mul stride))
-guards_of-at (suc n) stride bytes (suc l) h =
-    let next : stride + l * stride ≡ suc l * stride = omega (arith, suc-mul l stride) in
-    guards_of-at n stride (drop stride bytes) l (le_of_suc-le-suc h)
-    ∙ ap (λ (x : List ℕ). crc32c (take 4096 x)) (drop-drop (l * stride) stride bytes ∙ ap (λ (k : ℕ). drop k bytes) next)
+guards_end out rest stride n m e h =
+    let none : n - m ≡ 0 = omega arith in
+    rw (none, take_all m out (omega arith)) (append-nil out)
 
--- n numbers that are the checks of n runs, each by itself
-pub guards_of_each : (r : List ℕ) (n stride : ℕ) (bytes : List ℕ) → length r ≡ n → Known stride bytes r n → r ≡ guards_of n stride bytes
-guards_of_each r n stride bytes e h =
-    ext_get_or 0 r (guards_of n stride bytes) (e ∙ sym (length-guards_of n stride bytes)) (λ l g. h l (omega arith) ∙ sym (guards_of-at n stride bytes l (omega arith)))
+-- ---- runs past the end have no bytes
+
+check_none : crc32c [] ≡ 0
+unfolding crc32c
+check_none = ap (λ (r : ℕ). guard_of r) (advance-nil start)
+
+guards_none : (n stride : ℕ) → guards_of n stride [] ≡ replicate n 0
+unfolding guards_of
+guards_none zero stride = refl
+guards_none (suc n) stride = ap₂ (λ (g : ℕ) (l : List ℕ). g ∷ l) check_none (ap (guards_of n stride) (drop-nil stride) ∙ guards_none n stride)
+
+-- what is yet to be found, before the end and at it
+pub rest-turn : (out : List ℕ) (n m g : ℕ) → m < n → drop m out ≡ replicate (n - m) 0 → drop (m + 1) (set out m g) ≡ replicate (n - (m + 1)) 0
+rest-turn out n m g h e =
+    let one : n - m ≡ suc (n - (m + 1)) = omega arith in
+    let more : m < m + 1 = omega arith in
+    drop-set-lt (m + 1) out m g more ∙ sym (drop-drop 1 m out) ∙ ap (drop 1) (e ∙ ap (λ (k : ℕ). replicate k 0) one)
+
+pub rest_end : (out l : List ℕ) (stride n m : ℕ) → length l ≡ 0 → drop m out ≡ replicate (n - m) 0 → take m out ++ guards_of (n - m) stride l ≡ out
+rest_end out [] stride n m h e = ap (λ (x : List ℕ). take m out ++ x) (guards_none (n - m) stride ∙ sym e) ∙ take-append-drop m out
+rest_end out (b ∷ l) stride n m h e = absurd (omega arith)

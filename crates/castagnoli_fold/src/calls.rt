@@ -18,25 +18,20 @@ fn lead(register: u32, w: &mut [u8])
     requires by_index { (j : ℕ) → get_or w.old j 0 ≡ 0 }
     ensures { Ready 448 3648 (head_of register) w.new }
 {
-    w[4] = (register % 256) as u8;
-    w[5] = (register / 256 % 256) as u8;
-    w[6] = (register / 65536 % 256) as u8;
-    w[7] = (register / 65536 / 256 % 256) as u8;
+    w[4..8].copy_from_slice(&register.to_le_bytes());
 }
 
 // The register after a block. The buffer can serve again.
-fn block(register: u32, b: &[u8], w: &mut [u8]) -> u32
-    requires b_len { length b.now ≡ 4096 }
-    requires ready { Ready 448 3648 (head_of register) w.old }
+fn block(register: u32, b: &[u8; 4096], w: &mut [u8]) -> u32
+    requires { Ready 448 3648 (head_of register) w.old }
     ensures value { result ≡ advance register b.now }
-    ensures ready_2 { Ready 448 3648 (head_of register) w.new }
+    ensures ready { Ready 448 3648 (head_of register) w.new }
 {
     of_448(to_448(register, b, w))
 }
 
 // The register after a block, with a buffer of its own.
-fn alone(register: u32, b: &[u8]) -> u32
-    requires { length b.now ≡ 4096 }
+fn alone(register: u32, b: &[u8; 4096]) -> u32
     ensures { result ≡ advance register b.now }
 {
     let mut w = [0u8; 4544];
@@ -48,10 +43,9 @@ fn alone(register: u32, b: &[u8]) -> u32
 pub fn advance(register: u32, bytes: &[u8]) -> u32
     ensures { result ≡ advance register bytes.now }
 {
-    if bytes.len() == 4096 {
-        alone(register, bytes)
-    } else {
-        castagnoli::advance(register, bytes)
+    match bytes.as_array::<4096>() {
+        Some(block) => alone(register, block),
+        None => castagnoli::advance(register, bytes),
     }
 }
 

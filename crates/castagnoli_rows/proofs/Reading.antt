@@ -1,14 +1,14 @@
 -- Words as they are read, and rows of four of them.
 -- Assumes nothing.
 use mathlib.Core.Path.{◌≡◌, refl, sym, ap, ap₂, ◌∙◌}
-use mathlib.Core.List.{List, ◌++◌}
+use mathlib.Core.List.{List, [], ◌∷◌, ◌++◌}
 use Prim.Native.Nat.{ℕ, zero, suc, ◌+◌, ◌*◌, ◌/◌, ◌%◌, ◌^◌, ◌≤◌, ◌<◌}
-use native.Mathlib.Nat.{mul_assoc, pow-suc}
 use native.Mathlib.Numerals.{add-one}
 use native.Mathlib.Omega.{arith}
 use lib.ListN.{length, get_or, take, drop, length-drop}
 use lib.Seq.{drop-cons, drop-drop, take_all, take-add, length-take-le}
 use lib.Bits.{bit_xor}
+use Rattle.std.specs.Int.{w64, from_le_bytes}
 use Rattle.xor.proofs.Bits.{xor_assoc, xor_swap, xor-four}
 use Rattle.crc.specs.Crc.{Bytes}
 use Rattle.castagnoli.specs.Reflected.{bits_up, bits_up_of, feed_down}
@@ -41,26 +41,20 @@ pub little-piece : (b : List ℕ) (p : ℕ) → Bytes b → p + 8 ≤ length b �
 unfolding rest piece advance
 little-piece b p small h = ap (feed_down generator 0) (little-bits 8 b p small h)
 
--- numbers of more bytes from those of fewer
-pub little_two : (b : List ℕ) (p : ℕ) → get_or b p 0 + get_or b (p + 1) 0 * 256 ≡ little 2 b p
+-- eight bytes as a number
+pub little_eight : (b : List ℕ) (p : ℕ)
+    → from_le_bytes w64
+    (get_or b p 0 ∷ get_or b (p + 1) 0 ∷ get_or b (p + 2) 0 ∷ get_or b (p + 3) 0 ∷ get_or b (p + 4) 0 ∷ get_or b (p + 5) 0 ∷ get_or b (p + 6) 0 ∷ get_or b (p + 7) 0 ∷ [])
+    ≡ little 8 b p
 unfolding little
-little_two b p = omega arith
-
-pub little-more : (n k : ℕ) (b : List ℕ) (p : ℕ) → little n b p + little k b (p + n) * 256 ^ n ≡ little (n + k) b p
-unfolding little
-little-more zero k b p =
-    let same : 0 + k ≡ k = omega arith in
-    let here : p + 0 ≡ p = omega arith in
-    let once : 0 + little k b (p + 0) * 1 ≡ little k b (p + 0) = omega arith in
-    once ∙ ap₂ (λ (m j : ℕ). little m b j) (sym same) here
-little-more (suc n) k b p =
-    let l = little k b (p + suc n) in
-    let same : suc (n + k) ≡ suc n + k = omega arith in
-    let here : p + 1 + n ≡ p + suc n = omega arith in
-    let up : l * 256 ^ suc n ≡ l * 256 ^ n * 256 = ap (λ (q : ℕ). l * q) (pow-suc 256 n) ∙ sym (mul_assoc l (256 ^ n) 256) in
-    let out : get_or b p 0 + 256 * little n b (p + 1) + l * 256 ^ suc n ≡ get_or b p 0 + 256 * (little n b (p + 1) + l * 256 ^ n) = omega arith in
-    out ∙ ap (λ (q : ℕ). get_or b p 0 + 256 * q) (ap (λ (j : ℕ). little n b (p + 1) + little k b j * 256 ^ n) (sym here) ∙ little-more n k b (p + 1))
-    ∙ ap (λ (m : ℕ). little m b p) same
+little_eight b p =
+    let e₂ : p + 1 + 1 ≡ p + 2 = omega arith in
+    let e₃ : p + 2 + 1 ≡ p + 3 = omega arith in
+    let e₄ : p + 3 + 1 ≡ p + 4 = omega arith in
+    let e₅ : p + 4 + 1 ≡ p + 5 = omega arith in
+    let e₆ : p + 5 + 1 ≡ p + 6 = omega arith in
+    let e₇ : p + 6 + 1 ≡ p + 7 = omega arith in
+    rw (e₂, e₃, e₄, e₅, e₆, e₇) (omega arith)
 
 -- ---- rows
 

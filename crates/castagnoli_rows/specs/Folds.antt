@@ -1,13 +1,19 @@
--- Steps of the code, for the contracts of private functions: no promise of a public call rests on these definitions.
+-- Steps of the code, for the contracts of the fold that castagnoli_fold uses too: no promise of `advance`, `crc32c` or `guards` rests on these
+-- definitions.
 -- A fold takes the first m of m + n bytes away. As they are when they are taken they stand in a buffer, n places on; and each byte of the m + n is
 -- met by those that stand at some places of the buffer, counted from its own. Before them stands a head, and after them zeros. Assumes nothing.
-use Rattle.std.specs.Prelude.{◌≡◌, List, [], ◌∷◌, ℕ, ◌+◌, ◌≤◌, ◌<◌, length, get_or}
+use Rattle.std.specs.Prelude.{◌≡◌, Bool, true, ◌&&◌, leb, List, [], ◌∷◌, ℕ, ◌+◌, ◌≤◌, ◌<◌, length, get_or}
 use Rattle.std.specs.Int.Bits.{bit_xor}
 
 -- x, and what w holds at each of the places from k on, added
 abbrev pub mix : List ℕ → ℕ → List ℕ → ℕ → ℕ
 mix [] x w k = x
 mix (e ∷ es) x w k = mix es (bit_xor x (get_or w (k + e) 0)) w k
+
+-- no place is past z
+abbrev pub no_further : ℕ → List ℕ → Bool
+no_further z [] = true
+no_further z (e ∷ es) = leb e z && no_further z es
 
 -- a buffer with the head in front, filled up with zeros, and zeros at the end
 pub record Ready (n m : ℕ) (head w : List ℕ) : Type 0 where

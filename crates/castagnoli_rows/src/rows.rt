@@ -6,29 +6,23 @@ ghost use Rattle.castagnoli_rows.specs.Reading.{little, piece, column};
 
 use crate::to_128;
 use castagnoli_words::{end, joined, past_row};
-
-// Two bytes as a number, the first the lowest.
-fn two(b: &[u8], p: usize) -> u64
-    requires { p + 2 ≤ length b.now }
-    ensures { (result ≡ little 2 b.now p) × (result < 0x10000) }
-{
-    b[p] as u64 + b[p + 1] as u64 * 0x100
-}
-
-// Four bytes.
-fn four(b: &[u8], p: usize) -> u64
-    requires { p + 4 ≤ length b.now }
-    ensures { (result ≡ little 4 b.now p) × (result < 0x100000000) }
-{
-    two(b, p) + two(b, p + 2) * 0x10000
-}
+use std::array;
 
 // Eight bytes, as a word.
 fn word(b: &[u8], p: usize) -> u64
     requires { p + 8 ≤ length b.now }
     ensures { rest result ≡ piece b.now p }
 {
-    four(b, p) + four(b, p + 4) * 0x100000000
+    u64::from_le_bytes([
+        b[p],
+        b[p + 1],
+        b[p + 2],
+        b[p + 3],
+        b[p + 4],
+        b[p + 5],
+        b[p + 6],
+        b[p + 7],
+    ])
 }
 
 // What the four words of a lane come to.
@@ -46,13 +40,7 @@ fn lane(b: &[u8], p: usize) -> u64
 fn lanes(b: [u8; 128]) -> [u64; 4]
     ensures { (l : ℕ) → l < 4 → rest (get_or result l 0) ≡ column b (8 * l) }
 {
-    let mut out = [0u64; 4];
-    let mut l: usize = 0;
-    while l < 4 {
-        out[l] = lane(&b, 8 * l);
-        l += 1;
-    }
-    out
+    array::from_fn(|l| lane(&b, 8 * l))
 }
 
 // What 128 bytes make of a register 0.

@@ -48,3 +48,6 @@ unfolding on ons feed_down step_down
 row_on v w h =
     sparse 31 33 refl v h 31 256 (1 ∷ 14 ∷ 16 ∷ 23 ∷ 24 ∷ 28 ∷ 30 ∷ []) (4 ∷ 5 ∷ 6 ∷ 11 ∷ 18 ∷ 20 ∷ 29 ∷ 32 ∷ [])
     (3 ∷ 7 ∷ 12 ∷ 17 ∷ 21 ∷ 27 ∷ []) (lit≤ tt) (lit≤ tt) refl refl refl refl refl w
+
+-- all of them, by which the check proves the steps of the code
+pub ruleset steps = (word_on, two_words-on, row_on)

@@ -1,6 +1,6 @@
 // Words of 64 bits modulo the generator of CRC-32C, the lowest bit first: each step moves one on by a fixed number of bits with a few shifts,
 // and adds another. `high` has the low bits of a word, moved up; `low` the others; `both` the two together.
-#![tactic(auto)]
+#![tactic(auto, using(crate::proofs::Steps::steps))]
 
 ghost use Rattle.std.specs.Prelude.{◌≡◌};
 ghost use Rattle.castagnoli_words.specs.Words.{rest, after, quad, half};
@@ -100,6 +100,7 @@ pub fn past_row(v: u64, added: u64) -> u64
 }
 
 // A word that leaves what four words do that stand one after the other.
+// Stays: `words::joined` is this line over other steps; a trait of those would be a type for each division, its ghost members and their clauses in place of one line.
 pub fn joined(first: u64, second: u64, third: u64, fourth: u64) -> u64
     ensures { rest result ≡ quad (rest first) (rest second) (rest third) (rest fourth) }
 {
@@ -107,6 +108,7 @@ pub fn joined(first: u64, second: u64, third: u64, fourth: u64) -> u64
 }
 
 // What the low 32 bits of a word leave: how often the generator goes into them, and what is left of its terms.
+#[tactic(auto, using(crate::proofs::Ends::halves))]
 fn half(v: u64) -> u64
     ensures { result ≡ half v }
 {

@@ -1,12 +1,11 @@
 -- The lanes of a block, each added up by itself: they weigh what the block weighs. Assumes nothing.
 use mathlib.Core.Path.{◌≡◌, refl, sym, ap, ap₂, ◌∙◌}
-use mathlib.Core.List.{List, [], ◌∷◌, ◌++◌, append-nil}
-use Prim.Native.Nat.{ℕ, zero, suc, ◌+◌, ◌-◌, ◌*◌, ◌≤◌, ◌<◌}
+use mathlib.Core.List.{List, [], ◌∷◌}
+use Prim.Native.Nat.{ℕ, zero, suc, ◌+◌, ◌*◌, ◌≤◌, ◌<◌}
 use native.Mathlib.Nat.{add_assoc, add-zero, zero-add, le_of_suc-le-suc, not-suc-le-zero}
-use native.Mathlib.Numerals.{add-one}
 use native.Mathlib.Omega.{arith}
-use lib.ListN.{length, get_or, take, drop, set, replicate, length-drop, get_or-replicate}
-use lib.Seq.{ext_get_or, get_or-drop, take_all, take-suc-set, append_snoc}
+use lib.ListN.{length, get_or, take, drop, replicate, length-drop, get_or-replicate}
+use lib.Seq.{ext_get_or, get_or-drop, take_all}
 use Rattle.checksum.specs.Checksum.{words, sums}
 use Rattle.checksum.specs.Changes.{Bytes}
 use Rattle.checksum.specs.Weights.{made, reduced}
@@ -95,20 +94,23 @@ lanes_sums s l small h bytes =
     ∙ ap (λ (m : List ℕ). reduced (made s m)) (ap pairs (take_all 512 l (omega arith)) ∙ sym (words-pairs l bytes))
     ∙ sym (sums-made s (words l) small (words_small l))
 
--- ---- the loop over the lanes: one more, and its end
+-- ---- the lanes, each by its number
 
-pub lanes_turn : (out l : List ℕ) (n k v : ℕ) → k < length out → k < n → v ≡ stack 16 l k
-    → take (k + 1) (set out k v) ++ lanes_of (n - (k + 1)) l (k + 1) ≡ take k out ++ lanes_of (n - k) l k
+pub length-lanes_of : (n : ℕ) (l : List ℕ) (k : ℕ) → length (lanes_of n l k) ≡ n
 unfolding lanes_of
-lanes_turn out l n k v h g e =
-    let one : n - k ≡ suc (n - (k + 1)) = omega arith in
-    rw (one, ← e, add-one, take-suc-set) (append_snoc (take k out) v (lanes_of (n - suc k) l (suc k)))
+length-lanes_of zero l k = refl
+length-lanes_of (suc n) l k = ap suc (length-lanes_of n l (suc k))
 
-pub lanes_end : (out l : List ℕ) (n k : ℕ) → length out ≡ n → n ≤ k → take k out ++ lanes_of (n - k) l k ≡ out
+lanes_of-from : (n : ℕ) (l : List ℕ) (k i : ℕ) → i < n → get_or (lanes_of n l k) i 0 ≡ stack 16 l (k + i)
 unfolding lanes_of
-lanes_end out l n k e h =
-    let none : n - k ≡ 0 = omega arith in
-    rw (none, take_all k out (omega arith)) (append-nil out)
+lanes_of-from zero l k i h = absurd (omega arith)
+lanes_of-from (suc n) l k zero h = ap (stack 16 l) (sym (add-zero k))
+lanes_of-from (suc n) l k (suc i) h =
+    let e : suc k + i ≡ k + suc i = omega arith in
+    lanes_of-from n l (suc k) i (omega arith) ∙ ap (stack 16 l) e
+
+pub lanes_of-at : (n : ℕ) (l : List ℕ) (k : ℕ) → k < n → get_or (lanes_of n l 0) k 0 ≡ stack 16 l k
+lanes_of-at n l k h = lanes_of-from n l 0 k h ∙ ap (stack 16 l) (zero-add k)
 
 -- ---- a lane, four numbers at a time
 

@@ -4,10 +4,9 @@ use mathlib.Core.Path.{◌≡◌, refl, sym, ap, ap₂, ◌∙◌}
 use mathlib.Core.List.{List, [], ◌∷◌, ◌++◌}
 use Prim.Native.Nat.{ℕ, zero, suc, ◌+◌, ◌-◌, ◌*◌, ◌%◌, ◌≤◌, ◌<◌}
 use native.Mathlib.Nat.{le_refl, mod-eq_of_lt, mod-mod}
-use native.Mathlib.Numerals.{add-one, add-two}
 use native.Mathlib.Omega.{arith}
-use lib.ListN.{length, get_or, take, drop, drop_of_length-le, length-drop, take-append-drop}
-use lib.Seq.{drop-cons, take_all, length-take-le, drop-drop}
+use lib.ListN.{length, get_or, take, drop, length-drop, take-append-drop}
+use lib.Seq.{take_all, length-take-le}
 use Rattle.checksum.specs.Checksum.{taken, word, words, sums, checksum}
 use Rattle.checksum.specs.Machine.{register_of, start, byte_step, advance, guard_of, in_pieces, joined}
 use Rattle.checksum.specs.declared.Register.{Register}
@@ -125,44 +124,40 @@ advance-parity at by r [] h = refl
 advance-parity at by r (b ∷ bytes) h =
     ap (λ (p : ℕ). advance (suc at) (byte_step p r b) bytes) h ∙ advance-parity (suc at) (suc by) (byte_step (by % 2) r b) bytes (omega arith)
 
--- ---- the loop over the words of a run: two bytes more, a last one, and none
+-- ---- a run by chunks of n bytes, n even: one more, whose sum is v
 
-pub advance-turn : (r : Register) (l : List ℕ) (i : ℕ) → i % 2 ≡ 0 → i + 1 < length l
-    → advance (i + 2) (register_of (taken r.value (word (get_or l i 0) (get_or l (i + 1) 0))) 0) (drop (i + 2) l) ≡ advance i r (drop i l)
-advance-turn r l i even h =
-    let here : i < length l = omega arith in
-    let next : suc i < length l = omega arith in
-    rw (add-one, add-two, drop-cons l i 0 here, drop-cons l (suc i) 0 next) (sym (advance_two i r (get_or l i 0) (get_or l (suc i) 0) (drop (suc (suc i)) l) even))
-
-pub advance-last : (r : Register) (l : List ℕ) (i : ℕ) → i % 2 ≡ 0 → i + 1 ≡ length l → get_or l i 0 < 256
-    → register_of r.value (get_or l i 0) ≡ advance i r (drop i l)
-advance-last r l i even h byte =
-    let here : i < length l = omega arith in
-    let none : length l ≤ suc i = omega arith in
-    ap (register_of r.value) (sym (mod-eq_of_lt byte))
-    ∙ sym (ap (advance i r) (drop-cons l i 0 here ∙ ap (λ (m : List ℕ). get_or l i 0 ∷ m) (drop_of_length-le l none)) ∙ advance-one i r (get_or l i 0) even)
-
-pub advance-none : (r : Register) (l : List ℕ) (i : ℕ) → length l ≤ i → r ≡ advance i r (drop i l)
-advance-none r l i h = sym (ap (advance i r) (drop_of_length-le l h) ∙ advance-nil i r)
-
--- ---- a loop over parts of n bytes, n even: one more, whose sum is v
-
-pub advance-part : (n : ℕ) (r : Register) (l : List ℕ) (i v : ℕ) → n % 2 ≡ 0 → 0 < n → i % 2 ≡ 0 → i + n ≤ length l
-    → v ≡ sums r.value (words (take (i + n - i) (drop i l))) → advance (i + n) (register_of v 0) (drop (i + n) l) ≡ advance i r (drop i l)
-advance-part n r l i v whole some even fits e = sym (
-    ap (advance i r) (sym (take-append-drop n (drop i l)))
-    ∙ advance-joined i r part (drop n (drop i l))
-    ∙ ap₂ (λ (k : ℕ) (m : List ℕ). advance (i + k) (advance i r part) m) long (drop-drop n i l)
-    ∙ ap (λ (s : Register). advance (i + n) s (drop (i + n) l)) (advance-whole i r part even (rw long whole) (rw long some) ∙ ap (λ (x : ℕ). register_of x 0) sum))
+pub advance-part : (n : ℕ) (r : Register) (l chunk : List ℕ) (v : ℕ) → n % 2 ≡ 0 → 0 < n → n ≤ length l → chunk ≡ take n l → v ≡ sums r.value (words chunk)
+    → advance 0 (register_of v 0) (drop n l) ≡ advance 0 r l
+advance-part n r l chunk v whole some fits same e = sym (
+    ap (advance 0 r) (sym (take-append-drop n l))
+    ∙ advance-joined 0 r part (drop n l)
+    ∙ ap (λ (s : Register). advance (0 + length part) s (drop n l)) (advance-whole 0 r part refl (rw long whole) (rw long some) ∙ ap (λ (x : ℕ). register_of x 0) sum)
+    ∙ advance-parity (0 + length part) 0 (register_of v 0) (drop n l) (omega (arith, long)))
   where
     part : List ℕ
-    part = take n (drop i l)
+    part = take n l
 
     long : length part ≡ n
-    long = length-take-le n (drop i l) (rw (length-drop i l) (omega arith))
+    long = length-take-le n l fits
 
     sum : sums r.value (words part) ≡ v
-    sum = let cut : i + n - i ≡ n = omega arith in sym (e ∙ ap (λ (k : ℕ). sums r.value (words (take k (drop i l)))) cut)
+    sum = sym (e ∙ ap (λ (c : List ℕ). sums r.value (words c)) same)
+
+-- ---- by words: two bytes more, a last one, and none
+
+pub advance-two : (r : Register) (l chunk : List ℕ) (v : ℕ) → 1 < length l → chunk ≡ take 2 l → v ≡ taken r.value (word (get_or chunk 0 0) (get_or chunk 1 0))
+    → advance 0 (register_of v 0) (drop 2 l) ≡ advance 0 r l
+unfolding sums words
+advance-two r [] chunk v h e f = absurd (omega arith)
+advance-two r (a ∷ []) chunk v h e f = absurd (omega arith)
+advance-two r (a ∷ b ∷ l) chunk v h e f =
+    advance-part 2 r (a ∷ b ∷ l) (a ∷ b ∷ []) v refl (omega arith) (omega arith) refl
+    (f ∙ ap (λ (c : List ℕ). taken r.value (word (get_or c 0 0) (get_or c 1 0))) e)
+
+pub advance-last : (r : Register) (l : List ℕ) (b : ℕ) → 0 < length l → length l < 2 → b ≡ get_or l 0 0 → b < 256 → register_of r.value b ≡ advance 0 r l
+advance-last r [] b some h e byte = absurd (omega arith)
+advance-last r (a ∷ []) b some h e byte = ap (register_of r.value) (sym (mod-eq_of_lt byte) ∙ ap (λ (x : ℕ). x % 256) e) ∙ sym (advance-one 0 r a refl)
+advance-last r (a ∷ c ∷ l) b some h e byte = absurd (omega arith)
 
 -- ---- a piece from any position
 

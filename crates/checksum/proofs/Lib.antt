@@ -6,6 +6,7 @@ pub mod Carries
 pub mod Noticed
 pub mod Joined
 pub mod Rows
+pub mod Made
 pub mod Columns
 pub mod Strides
 pub mod Figures

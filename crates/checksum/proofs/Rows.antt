@@ -3,10 +3,9 @@ use mathlib.Core.Path.{◌≡◌, refl, sym, ap, ap₂, ◌∙◌}
 use mathlib.Core.List.{List, [], ◌∷◌, ◌++◌}
 use Prim.Native.Nat.{ℕ, zero, suc, ◌+◌, ◌*◌, ◌/◌, ◌%◌, ◌^◌, ◌≤◌, ◌<◌}
 use native.Mathlib.Nat.{add_assoc, zero-add, zero-mul, mul_assoc, mul-le-mul_right, pow-succ', le_trans}
-use native.Mathlib.Numerals.{add-one, add-two}
 use native.Mathlib.Omega.{arith}
-use lib.ListN.{length, get_or, take, drop, length-drop, drop_of_length-le}
-use lib.Seq.{drop-cons, take-add, length-take-le}
+use lib.ListN.{length, get_or, take, drop, length-drop}
+use lib.Seq.{take-add, length-take-le}
 use Rattle.checksum.specs.Checksum.{words, sums}
 use Rattle.checksum.specs.Changes.{Bytes}
 use Rattle.checksum.specs.Weights.{weighted, made, reduced}
@@ -95,17 +94,22 @@ row_more s acc l i h long even e =
 
 -- ---- the loop over the lanes
 
-pub made-turn : (t : ℕ) (l : List ℕ) (j : ℕ) → j + 1 < length l
-    → made (t * 2 + pair (get_or l j 0) (get_or l (j + 1) 0)) (pairs (drop (j + 2) l)) ≡ made t (pairs (drop j l))
+-- two numbers more, which come as the first chunk of what is left
+pub made-front : (t a b : ℕ) (l chunk : List ℕ) → 1 < length l → chunk ≡ take 2 l → a ≡ get_or chunk 0 0 → b ≡ get_or chunk 1 0
+    → made (t * 2 + pair a b) (pairs (drop 2 l)) ≡ made t (pairs l)
 unfolding made pairs
-made-turn t l j h =
-    let here : j < length l = omega arith in
-    let next : suc j < length l = omega arith in
-    rw (add-one, add-two, drop-cons l j 0 here, drop-cons l (suc j) 0 next)
+made-front t a b [] chunk h e f g = absurd (omega arith)
+made-front t a b (x ∷ []) chunk h e f g = absurd (omega arith)
+made-front t a b (x ∷ y ∷ l) chunk h e f g =
+    let first : a ≡ x = f ∙ ap (λ (c : List ℕ). get_or c 0 0) e in
+    let second : b ≡ y = g ∙ ap (λ (c : List ℕ). get_or c 1 0) e in
+    ap₂ (λ (p q : ℕ). made (t * 2 + pair p q) (pairs l)) first second
 
-pub made_none : (t : ℕ) (l : List ℕ) (j : ℕ) → length l ≤ j → made t (pairs (drop j l)) ≡ t
+pub made-short : (t : ℕ) (l : List ℕ) → length l < 2 → made t (pairs l) ≡ t
 unfolding made pairs
-made_none t l j h = rw (drop_of_length-le l h)
+made-short t [] h = refl
+made-short t (a ∷ []) h = refl
+made-short t (a ∷ b ∷ l) h = absurd (omega arith)
 
 -- how much they can make, and so each turn
 made-le : (s m : ℕ) (ws : List ℕ) → ((k : ℕ) → get_or ws k 0 ≤ m) → made s ws ≤ (s + m) * 2 ^ length ws
@@ -121,9 +125,6 @@ unfolding made
 made-ge s [] = omega arith
 made-ge s (w ∷ ws) = omega (arith, made-ge (s * 2 + w) ws)
 
-turn-le : (t : ℕ) (l : List ℕ) (j : ℕ) → j + 1 < length l → t * 2 + pair (get_or l j 0) (get_or l (j + 1) 0) ≤ made t (pairs (drop j l))
-turn-le t l j h = rw (made-turn t l j h) at (made-ge (t * 2 + pair (get_or l j 0) (get_or l (j + 1) 0)) (pairs (drop (j + 2) l)))
-
 pairs-le : (l : List ℕ) (m : ℕ) → ((k : ℕ) → get_or l k 0 ≤ m) → (k : ℕ) → get_or (pairs l) k 0 ≤ pair m m
 unfolding pairs
 pairs-le [] m h k = omega arith
@@ -138,9 +139,9 @@ weight_le l m e h =
     omega arith
 
 -- what one turn makes, at most
-pub turn-most : (t : ℕ) (l : List ℕ) (j m : ℕ) → length l ≡ 32 → j < 32 → j % 2 ≡ 0 → ((k : ℕ) → get_or l k 0 ≤ m)
-    → made t (pairs (drop j l)) ≡ made 0 (pairs l) → t * 2 + pair (get_or l j 0) (get_or l (j + 1) 0) ≤ pair m m * 65536
-turn-most t l j m long h even small e = omega (arith, turn-le t l j (omega arith), weight_le l m long small, e)
+pub front-most : (t a b : ℕ) (l chunk : List ℕ) (most : ℕ) → 1 < length l → chunk ≡ take 2 l → a ≡ get_or chunk 0 0 → b ≡ get_or chunk 1 0
+    → made t (pairs l) ≤ most → t * 2 + pair a b ≤ most
+front-most t a b l chunk most h e f g few = omega (arith, made-ge (t * 2 + pair a b) (pairs (drop 2 l)), made-front t a b l chunk h e f g)
 
 -- ---- a row by itself
 

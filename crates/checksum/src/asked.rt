@@ -2,16 +2,15 @@
 ghost use Rattle.std.specs.Prelude.{◌≡◌};
 ghost use Rattle.checksum.specs.Asked.{summed_numbers, sum_numbers};
 
-use crate::Summed;
 use crate::machine::checksum;
+use refusal::Refusal;
 
 // The checksum of a run of whole words; a run of odd length is refused.
-pub fn sum(bytes: &[u8]) -> Summed
+pub fn sum(bytes: &[u8]) -> Result<u16, Refusal>
     ensures { summed_numbers result ≡ sum_numbers bytes.now }
 {
     if bytes.len() % 2 != 0 {
-        return Summed::Refused(6);
+        return Err(Refusal::Length);
     }
-    let guard = checksum(bytes);
-    Summed::Sum { guard }
+    Ok(checksum(bytes))
 }

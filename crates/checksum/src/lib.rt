@@ -15,6 +15,7 @@ ghost use Rattle.checksum.specs.Lanes.{pairs, stack, lanes_of};
 pub use asked::sum;
 pub use machine::{advance, checksum, start};
 pub use many::checksums;
+use std::array;
 
 // The sum of the words so far, and the byte that waits for its pair: zero where none waits.
 #[derive(Clone, Copy)]
@@ -23,21 +24,13 @@ pub struct Register {
     pub waiting: u8,
 }
 
-// The checksum asked for by itself: refused, or the guard that it is.
-#[derive(Clone, Copy)]
-pub enum Summed {
-    Refused(u8),
-    Sum { guard: u16 },
-}
-
 // The sum with one word more, which comes as two bytes.
 fn take_word(sum: u16, high: u8, low: u8) -> u16
     ensures { result ≡ taken sum (word high low) }
 {
-    let rotated = sum % 32768 * 2 + sum / 32768;
-    let word = high as u16 * 256 + low as u16;
-    let total = rotated as u32 + word as u32;
-    (total % 65536 + total / 65536) as u16
+    let rotated = sum.rotate_left(1);
+    let (total, carry) = rotated.overflowing_add(u16::from_be_bytes([high, low]));
+    total + u16::from(carry)
 }
 
 // Four bytes of a lane.
@@ -45,7 +38,10 @@ fn four(bytes: &[u8], at: usize) -> u16
     requires { at + 96 < length bytes.now }
     ensures { (result ≡ stack 4 bytes.now at) × (result ≤ 1020) }
 {
-    bytes[at] as u16 + bytes[at + 32] as u16 + bytes[at + 64] as u16 + bytes[at + 96] as u16
+    u16::from(bytes[at])
+        + u16::from(bytes[at + 32])
+        + u16::from(bytes[at + 64])
+        + u16::from(bytes[at + 96])
 }
 
 // A lane of a block.
@@ -57,17 +53,10 @@ fn lane(bytes: &[u8], at: usize) -> u16
 }
 
 // The lanes of a block, each by itself: one loop, which becomes vector code.
-fn lanes(bytes: &[u8]) -> [u16; 32]
-    requires { length bytes.now ≡ 512 }
+fn lanes(bytes: &[u8; 512]) -> [u16; 32]
     ensures { result ≡ lanes_of 32 bytes.now 0 }
 {
-    let mut out = [0u16; 32];
-    let mut k: usize = 0;
-    while k < 32 {
-        out[k] = lane(bytes, k);
-        k += 1;
-    }
-    out
+    array::from_fn(|k| lane(bytes, k))
 }
 
 // What lanes weigh.
@@ -75,10 +64,10 @@ fn weight(lanes: [u16; 32]) -> u64
     ensures { (result ≡ made 0 (pairs lanes)) × (result ≤ 1103789752320) }
 {
     let mut t: u64 = 0;
-    let mut j: usize = 0;
-    while j < 32 {
-        t = t * 2 + (lanes[j] as u64 * 256 + lanes[j + 1] as u64);
-        j += 2;
+    let mut rest = &lanes[..];
+    while let Some(([high, low], after)) = rest.split_first_chunk::<2>() {
+        t = t * 2 + (u64::from(*high) * 256 + u64::from(*low));
+        rest = after;
     }
     t
 }
@@ -94,24 +83,17 @@ fn reduce(x: u64) -> u16
 }
 
 // The sum after a row of 32 bytes: sixteen doublings bring it back to where it was.
-fn row(sum: u16, bytes: &[u8]) -> u16
-    requires { length bytes.now ≡ 32 }
+fn row(sum: u16, bytes: &[u8; 32]) -> u16
     ensures { result ≡ sums sum (words bytes.now) }
 {
-    let mut t: u64 = 0;
-    let mut j: usize = 0;
-    while j < 32 {
-        t = t * 2 + (bytes[j] as u64 * 256 + bytes[j + 1] as u64);
-        j += 2;
-    }
-    reduce(sum as u64 + t)
+    let lanes = array::from_fn(|k| u16::from(bytes[k]));
+    reduce(u64::from(sum) + weight(lanes))
 }
 
 // The sum after a block.
-fn block(sum: u16, bytes: &[u8]) -> u16
-    requires { length bytes.now ≡ 512 }
+fn block(sum: u16, bytes: &[u8; 512]) -> u16
     ensures { result ≡ sums sum (words bytes.now) }
 {
     let lanes = lanes(bytes);
-    reduce(sum as u64 + weight(lanes))
+    reduce(u64::from(sum) + weight(lanes))
 }

@@ -24,14 +24,14 @@ fn by_words(sum: u16, before: u8, bytes: &[u8]) -> Register
 {
     let mut value = sum;
     let mut waiting = before;
-    let mut i: usize = 0;
-    while 1 < bytes.len() - i {
-        value = take_word(value, bytes[i], bytes[i + 1]);
+    let mut rest = bytes;
+    while let Some(([high, low], after)) = rest.split_first_chunk::<2>() {
+        value = take_word(value, *high, *low);
         waiting = 0;
-        i += 2;
+        rest = after;
     }
-    if i < bytes.len() {
-        waiting = bytes[i];
+    if let Some(last) = rest.first() {
+        waiting = *last;
     }
     Register { value, waiting }
 }
@@ -42,20 +42,18 @@ fn from_even(sum: u16, before: u8, bytes: &[u8]) -> Register
 {
     let mut value = sum;
     let mut waiting = before;
-    let mut i: usize = 0;
-    while 512 <= bytes.len() - i {
-        let end = i + 512;
-        value = block(value, &bytes[i..end]);
+    let mut rest = bytes;
+    while let Some((first, after)) = rest.split_first_chunk::<512>() {
+        value = block(value, first);
         waiting = 0;
-        i = end;
+        rest = after;
     }
-    while 32 <= bytes.len() - i {
-        let end = i + 32;
-        value = row(value, &bytes[i..end]);
+    while let Some((first, after)) = rest.split_first_chunk::<32>() {
+        value = row(value, first);
         waiting = 0;
-        i = end;
+        rest = after;
     }
-    by_words(value, waiting, &bytes[i..])
+    by_words(value, waiting, rest)
 }
 
 // A register after some bytes more, from a position of their run on. At an odd one the first byte is the pair of the one that waits.
@@ -77,8 +75,8 @@ pub fn advance(at: usize, register: Register, bytes: &[u8]) -> Register
 pub fn checksum(bytes: &[u8]) -> u16
     ensures { result ≡ checksum bytes.now }
 {
-    if bytes.len() == 512 {
-        return block(FIRST, bytes);
+    if let Some(whole) = bytes.as_array::<512>() {
+        return block(FIRST, whole);
     }
     let register = from_even(FIRST, 0, bytes);
     register.value

@@ -1,13 +1,14 @@
 -- Laws of `sets`, bytes written over others from a place on: by single stores, one run behind another, and past the end.
 -- Assumes nothing.
 use mathlib.Core.Path.{◌≡◌, refl, sym, ap}
-use mathlib.Core.List.{List, [], ◌∷◌, ◌++◌}
+use mathlib.Core.List.{List, [], ◌∷◌, ◌++◌, append_assoc}
 use Prim.Native.Nat.{ℕ, zero, suc, ◌+◌, ◌≤◌, ◌<◌}
 use native.Mathlib.Nat.{add-suc, suc-add, add-zero}
 use native.Mathlib.Numerals.{add-one}
 use native.Mathlib.Omega.{arith}
 use lib.ListN.{length, get_or, take, drop, set, drop_of_length-le, length-set}
-use lib.Seq.{sets, drop-cons}
+use lib.Seq.{sets, sets-eq, drop-cons, drop-drop}
+use borrow.Rule.Slice.PartMut.{put_mid}
 
 -- the loop of single stores: one turn, and its end
 pub sets-turn : (t : List ℕ) (at i : ℕ) (bytes : List ℕ) → i < length bytes
@@ -37,3 +38,7 @@ sets-room t at zero [] h = refl
 sets-room t at (suc room) [] h = refl
 sets-room t at zero (x ∷ bytes) h = sym (sets-past t at (x ∷ bytes) (omega arith))
 sets-room t at (suc room) (x ∷ bytes) h = sets-room (set t at x) (suc at) room bytes (rw length-set (omega arith))
+
+-- a part of a list with a run in its place
+pub sets-part : (t : List ℕ) (at k : ℕ) (bytes : List ℕ) → k ≡ length bytes → at + k ≤ length t → put_mid at k t bytes ≡ sets t at bytes
+sets-part t at k bytes e h = sym (rw (sets-eq bytes t at (omega arith), ← e, append_assoc, ← drop-drop k at t) refl)

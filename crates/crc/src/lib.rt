@@ -23,10 +23,8 @@ pub fn step(register: u16, byte: u8) -> u16
     ensures { result ≡ run register (byte ∷ []) }
 {
     let mut after = register;
-    let mut left: u16 = 8;
-    while 0 < left {
-        left -= 1;
-        after = bit_step(after, (byte as u16 >> left) % 2);
+    for i in (0..8u16).rev() {
+        after = bit_step(after, (u16::from(byte) >> i) % 2);
     }
     after
 }

@@ -1,6 +1,6 @@
 // Checksums: of runs, and of the stripe that source 000 works out.
-use checksum::{Summed, checksum};
-use figures_text::{guard_line, named};
+use checksum::checksum;
+use figures_text::{guard_line, refused};
 use std::io;
 use std::io::Write;
 
@@ -85,11 +85,11 @@ fn rebuilt(out: &mut impl Write, first: &[u8], parity: &[u8]) -> io::Result<()> 
 // One line: what is given, and its checksum, or the refusal.
 fn row(out: &mut impl Write, given: &[u8], bytes: &[u8]) -> io::Result<()> {
     match checksum::sum(bytes) {
-        Summed::Refused(number) => {
+        Ok(found) => guard_line(out, given, found),
+        Err(refusal) => {
             out.write_all(given)?;
-            named(out, b"refusal ", u64::from(number))?;
+            refused(out, refusal)?;
             out.write_all(b"\n")
         }
-        Summed::Sum { guard: found } => guard_line(out, given, found),
     }
 }

@@ -1,5 +1,5 @@
 // Places of the bench table.
-use figures_text::named;
+use figures_text::{named, refused};
 use layout::{Array, Owned, Placed};
 use std::io;
 use std::io::Write;
@@ -74,11 +74,11 @@ pub fn rows(out: &mut impl Write) -> io::Result<()> {
 fn place(out: &mut impl Write, given: &[u8], array: Array, block: u64) -> io::Result<()> {
     out.write_all(given)?;
     match layout::place(array, block) {
-        Placed::Refused(number) => named(out, b"refusal ", u64::from(number))?,
-        Placed::At { stripe, member } => {
+        Ok(Placed { stripe, member }) => {
             named(out, b"stripe ", stripe)?;
             named(out, b" member ", member as u64)?;
         }
+        Err(refusal) => refused(out, refusal)?,
     }
     out.write_all(b"\n")
 }
@@ -93,11 +93,11 @@ fn owner(
 ) -> io::Result<()> {
     out.write_all(given)?;
     let owned = layout::owner(array, stripe, member);
-    let reference = tag::due_to(array, owned, 0, 0).reference;
+    let reference = tag::due_to(array, owned.ok(), 0, 0).reference;
     match owned {
-        Owned::Refused(number) => named(out, b"refusal ", u64::from(number))?,
-        Owned::Parity { lowest: _ } => named(out, b"parity, reference ", reference)?,
-        Owned::Data { block: _ } => named(out, b"data, reference ", reference)?,
+        Ok(Owned::Parity { lowest: _ }) => named(out, b"parity, reference ", reference)?,
+        Ok(Owned::Data { block: _ }) => named(out, b"data, reference ", reference)?,
+        Err(refusal) => refused(out, refusal)?,
     }
     out.write_all(b"\n")
 }

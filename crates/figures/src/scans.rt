@@ -1,5 +1,6 @@
 // A scan of the bench table: a whole block in one piece, then a byte more, then none.
 use figures_text::named;
+use refusal::told;
 use scan::Scan;
 use std::io;
 use std::io::Write;
@@ -44,7 +45,7 @@ fn piece(
 ) -> io::Result<Scan> {
     out.write_all(given)?;
     let taken = scan::piece(state, 0, bytes, work);
-    named(out, b"", u64::from(taken.refusal))?;
+    named(out, b"", u64::from(told(taken.answer)))?;
     out.write_all(b"\n")?;
     Ok(taken.state)
 }

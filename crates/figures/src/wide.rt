@@ -1,8 +1,8 @@
 // CRC-32C: the examples of RFC 3720, and the quick scrub of guards of blocks of 4,096 bytes.
-use figures_text::{four_digits, named};
+use figures_text::{four_digits, refused};
 use std::io;
 use std::io::Write;
-use verdict::ComparedWide;
+use verdict::Compared;
 
 // An iSCSI read command.
 const COMMAND: [u8; 48] = [
@@ -66,6 +66,7 @@ fn ending(last: u8) -> u32 {
 }
 
 // One line: what is given, and its CRC-32C.
+// Stays: `row` of guards.rt but for the guard and its digits; a function of both would be handed these two, and be no plainer.
 fn row(out: &mut impl Write, given: &[u8], bytes: &[u8]) -> io::Result<()> {
     guard(out, given, castagnoli_fold::crc32c(bytes))
 }
@@ -86,12 +87,12 @@ fn eight_digits(out: &mut impl Write, number: u32) -> io::Result<()> {
 fn quick(out: &mut impl Write, given: &[u8], guards: &[u32]) -> io::Result<()> {
     out.write_all(given)?;
     match verdict::quick_scrub_wide(guards) {
-        ComparedWide::Refused(number) => named(out, b"refusal ", u64::from(number))?,
-        ComparedWide::Fits => out.write_all(b"fits")?,
-        ComparedWide::Differs { combination } => {
+        Ok(Compared::Fits) => out.write_all(b"fits")?,
+        Ok(Compared::Differs { combination }) => {
             out.write_all(b"differs ")?;
             eight_digits(out, combination)?;
         }
+        Err(refusal) => refused(out, refusal)?,
     }
     out.write_all(b"\n")
 }

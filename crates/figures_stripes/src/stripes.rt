@@ -18,10 +18,10 @@ pub fn sealed(out: &mut impl Write, title: &[u8], method: u8) -> io::Result<()> 
     content[1023] = 2;
     let mut bytes = [0u8; 1560];
     out.write_all(title)?;
-    stripe::seal(array, 0, &content, &mut bytes);
+    let _ = stripe::seal(array, 0, &content, &mut bytes);
     shown(out, array, &bytes)?;
     out.write_all(b"block 0 updated, tag of      is\n")?;
-    stripe::update(array, 0, &[0u8; 512], &mut bytes);
+    let _ = stripe::update(array, 0, &[0u8; 512], &mut bytes);
     shown(out, array, &bytes)?;
     bytes[1034] = 0xFF;
     bytes[1035] = 0xFF;
@@ -42,10 +42,10 @@ pub fn sealed_large(out: &mut impl Write) -> io::Result<()> {
     content[8191] = 2;
     let mut bytes = [0u8; 12336];
     out.write_all(b"\nlarge blocks, tag of         is\n")?;
-    stripe::seal(array, 0, &content, &mut bytes);
+    let _ = stripe::seal(array, 0, &content, &mut bytes);
     shown(out, array, &bytes)?;
     out.write_all(b"block 0 updated, tag of      is\n")?;
-    stripe::update(array, 0, &[0u8; 4096], &mut bytes);
+    let _ = stripe::update(array, 0, &[0u8; 4096], &mut bytes);
     shown(out, array, &bytes)?;
     bytes[8212] = 0xFF;
     bytes[8213] = 0xFF;
@@ -69,7 +69,7 @@ fn shown(out: &mut impl Write, array: Array, bytes: &[u8]) -> io::Result<()> {
 pub fn torn(out: &mut impl Write) -> io::Result<()> {
     let array = three(1);
     let mut bytes = [0u8; 1560];
-    stripe::seal(array, 0, &[0u8; 1024], &mut bytes);
+    let _ = stripe::seal(array, 0, &[0u8; 1024], &mut bytes);
     bytes[509] = 0x01;
     bytes[510] = 0x8B;
     bytes[511] = 0xB7;
@@ -91,7 +91,7 @@ pub fn unfit(out: &mut impl Write) -> io::Result<()> {
     content[511] = 1;
     content[1023] = 2;
     let mut bytes = [0u8; 1560];
-    stripe::seal(array, 0, &content, &mut bytes);
+    let _ = stripe::seal(array, 0, &content, &mut bytes);
     bytes[513] = 7;
     out.write_all(b"\nby checksum, parity's guard 0007\n")?;
     verdict(out, array, &bytes)?;

@@ -1,11 +1,11 @@
 // What is told of a stripe: its tags, how its first block reads, and what both scrubs say.
-use figures_text::{four_digits, named, two_digits};
+use figures_text::{four_digits, named, refused, two_digits};
 use layout::Array;
 use std::io;
 use std::io::Write;
 use stripe::Reading;
 use tag::pair;
-use verdict::{Compared, Scrubbed, Verdict};
+use verdict::{Compared, Verdict};
 
 // The tags of the three members.
 pub fn tags(out: &mut impl Write, method: u8, bytes: &[u8]) -> io::Result<()> {
@@ -28,8 +28,8 @@ fn tag(
     end: usize,
 ) -> io::Result<()> {
     out.write_all(member)?;
-    for at in start..end {
-        out.write_all(&two_digits(byte_at(bytes, at)))?;
+    for byte in bytes.iter().take(end).skip(start) {
+        out.write_all(&two_digits(*byte))?;
     }
     out.write_all(b"\n")
 }
@@ -48,10 +48,10 @@ fn read_into(out: &mut impl Write, array: Array, bytes: &[u8], block: &mut [u8])
     let read = stripe::read(array, 0, bytes, block);
     let last = u64::from(last_of(block));
     match read {
-        Reading::Refused(number) => named(out, b"refusal ", u64::from(number))?,
-        Reading::Stored => named(out, b"stored, last byte ", last)?,
-        Reading::Rebuilt => named(out, b"rebuilt, last byte ", last)?,
-        Reading::Unchecked => named(out, b"unchecked, last byte ", last)?,
+        Ok(Reading::Stored) => named(out, b"stored, last byte ", last)?,
+        Ok(Reading::Rebuilt) => named(out, b"rebuilt, last byte ", last)?,
+        Ok(Reading::Unchecked) => named(out, b"unchecked, last byte ", last)?,
+        Err(refusal) => refused(out, refusal)?,
     }
     out.write_all(b"\n")
 }
@@ -64,8 +64,8 @@ fn last_of(bytes: &[u8]) -> u8 {
 pub fn verdict(out: &mut impl Write, array: Array, bytes: &[u8]) -> io::Result<()> {
     out.write_all(b"scrub                        ")?;
     match stripe::scrub(array, 0, bytes) {
-        Scrubbed::Refused(number) => named(out, b"refusal ", u64::from(number))?,
-        Scrubbed::Found(found) => finding(out, found)?,
+        Ok(found) => finding(out, found)?,
+        Err(refusal) => refused(out, refusal)?,
     }
     out.write_all(b"\n")
 }
@@ -105,12 +105,12 @@ pub fn quick(out: &mut impl Write, bytes: &[u8]) -> io::Result<()> {
     out.write_all(b"quick scrub                  ")?;
     let guards = [stored(bytes, 512), stored(bytes, 1032), stored(bytes, 1552)];
     match verdict::quick_scrub(&guards) {
-        Compared::Refused(number) => named(out, b"refusal ", u64::from(number))?,
-        Compared::Fits => out.write_all(b"fits")?,
-        Compared::Differs { combination } => {
+        Ok(Compared::Fits) => out.write_all(b"fits")?,
+        Ok(Compared::Differs { combination }) => {
             out.write_all(b"differs ")?;
             out.write_all(&four_digits(combination))?;
         }
+        Err(refusal) => refused(out, refusal)?,
     }
     out.write_all(b"\n")
 }

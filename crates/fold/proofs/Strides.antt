@@ -1,9 +1,9 @@
 -- Runs at equal distances: which are whole, and their guards as a list.
 -- Assumes nothing.
 use mathlib.Core.Path.{◌≡◌, refl, sym, ap, ◌∙◌}
-use mathlib.Core.List.{List, [], ◌∷◌}
+use mathlib.Core.List.{List}
 use Prim.Native.Nat.{ℕ, zero, suc, ◌+◌, ◌-◌, ◌*◌, ◌/◌, ◌≤◌, ◌<◌, min}
-use native.Mathlib.Nat.{le_refl, mul-le-mul_right, zero-mul, suc-mul, mul-zero, le-div_iff_mul-le, div-lt_iff_lt-mul, le_of_suc-le-suc, not-suc-le-zero}
+use native.Mathlib.Nat.{mul-le-mul_right, zero-mul, suc-mul, mul-zero, le-div_iff_mul-le, div-lt_iff_lt-mul, le_of_suc-le-suc, not-suc-le-zero}
 use native.Mathlib.Decide.{dec_le, dec_lt}
 use native.Mathlib.Omega.{arith}
 use lib.ListN.{length, get_or, take, drop, drop_of_length-le, length-drop}
@@ -34,15 +34,29 @@ some-whole stride end s h =
 
 -- ---- where they begin
 
-drop_further : (bytes : List ℕ) (n : ℕ) → drop (min n (length bytes)) bytes ≡ drop n bytes
-drop_further bytes n = go (dec_le n (length bytes))
+-- a run that is not whole has all the bytes that are left
+pub rest_of : (bytes : List ℕ) (m stride : ℕ) → length bytes < m * stride + 512 → drop (m * stride) bytes ≡ take 512 (drop (m * stride) bytes)
+rest_of bytes m stride h = sym (take_all 512 (drop (m * stride) bytes) (rw (length-drop (m * stride) bytes) (omega arith)))
+
+-- a stride on, and not past the end
+pub stride_on : (l : List ℕ) (stride cut : ℕ) → cut ≡ min (length l) stride → take (length l - cut) (drop cut l) ≡ drop stride l
+stride_on l stride cut e = take_all (length l - cut) (drop cut l) (rw (length-drop cut l) (omega arith)) ∙ go (dec_le stride (length l))
   where
-    go : Dec (n ≤ length bytes) → drop (min n (length bytes)) bytes ≡ drop n bytes
-    go (yes l) = let e : min n (length bytes) ≡ n = omega arith in ap (λ (k : ℕ). drop k bytes) e
-    go (no l) =
-        let e : min n (length bytes) ≡ length bytes = omega arith in
-        let over : length bytes ≤ n = omega arith in
-        ap (λ (k : ℕ). drop k bytes) e ∙ drop_of_length-le bytes (le_refl (length bytes)) ∙ sym (drop_of_length-le bytes over)
+    go : Dec (stride ≤ length l) → drop cut l ≡ drop stride l
+    go (yes h) = let same : cut ≡ stride = omega arith in ap (λ (k : ℕ). drop k l) same
+    go (no h) =
+        let here : length l ≤ cut = omega arith in
+        let there : length l ≤ stride = omega arith in
+        drop_of_length-le l here ∙ sym (drop_of_length-le l there)
+
+pub next-run : (bytes rest : List ℕ) (m stride : ℕ) → rest ≡ drop (m * stride) bytes → drop stride rest ≡ drop ((m + 1) * stride) bytes
+next-run bytes rest m stride e =
+    let more : m * stride + stride ≡ (m + 1) * stride = omega (arith, suc-mul m stride) in
+    ap (drop stride) e ∙ drop-drop stride (m * stride) bytes ∙ ap (λ (k : ℕ). drop k bytes) more
+
+-- where none are left, the next run begins past the end
+pub past_all : (bytes rest : List ℕ) (n : ℕ) → rest ≡ drop n bytes → length rest ≡ 0 → length bytes ≤ n
+past_all bytes rest n e none = let left : length bytes - n ≡ 0 = sym (length-drop n bytes) ∙ ap length (sym e) ∙ none in omega arith
 
 -- a run that begins past the end has no bytes, and no guard
 pub past_end : (bytes : List ℕ) (m l stride : ℕ) → length bytes ≤ m * stride → m ≤ l → guard (take 512 (drop (l * stride) bytes)) ≡ 0
@@ -50,20 +64,6 @@ unfolding guard
 past_end bytes m l stride over h =
     let further : length bytes ≤ l * stride = omega (arith, mul-le-mul_right stride h) in
     ap (λ (r : List ℕ). run 0 (take 512 r)) (drop_of_length-le bytes further) ∙ run-nil 0
-
-pub none_left : (bytes : List ℕ) → length bytes ≡ 0 → bytes ≡ []
-none_left [] h = refl
-none_left (x ∷ bytes) h = absurd (omega arith)
-
--- a run that is not whole has all the bytes that are left
-pub rest_of : (bytes : List ℕ) (m stride n : ℕ) → n ≡ min (m * stride) (length bytes) → length bytes < m * stride + 512
-    → take (length bytes - n) (drop n bytes) ≡ take 512 (drop (m * stride) bytes)
-rest_of bytes m stride n e h =
-    take_all (length bytes - n) (drop n bytes) (rw (length-drop n bytes) (le_refl (length bytes - n))) ∙ ap (λ (x : ℕ). drop x bytes) e ∙ drop_further bytes (m * stride)
-    ∙ sym (take_all 512 (drop (m * stride) bytes) (rw (length-drop (m * stride) bytes) (omega arith)))
-
-pub next-run : (m stride at end : ℕ) → at ≡ min (m * stride) end → min (at + stride) end ≡ min ((m + 1) * stride) end
-next-run m stride at end e = let more : (m + 1) * stride ≡ m * stride + stride = omega (arith, suc-mul m stride) in omega arith
 
 -- ---- their guards
 

@@ -3,12 +3,13 @@
 use mathlib.Core.Path.{◌≡◌, refl, sym, ap, ap₂, ◌∙◌}
 use mathlib.Core.List.{List, [], ◌∷◌, ◌++◌}
 use Prim.Native.Nat.{ℕ, zero, suc, ◌+◌, ◌-◌, ◌*◌, ◌%◌, ◌^◌, ◌≤◌, ◌<◌}
-use native.Mathlib.Nat.{zero-add, add-zero, mul_assoc, add-mul, mod-eq_of_lt, lt_of_lt_of_le}
+use native.Mathlib.Nat.{zero-add, add-zero, add_comm, mul_assoc, add-mul, mod-eq_of_lt, lt_of_lt_of_le}
 use native.Mathlib.Omega.{arith}
 use lib.ListN.{length, get_or, take, drop, length-drop}
 use lib.Seq.{drop-cons, take-suc, get_or-drop}
 use lib.Pow.{pow_pos, pow-add, pow_mono, shl_lt, shl_exact, shl-shr, mod-pow-add, mod-mod-pow, low}
 use lib.Bits.{bit_or, bit_xor, xor_comm, xor_lt, xor_zero_r, xor_mod, or_shifted, xor_shifted}
+use Rattle.std.specs.Int.{w64, from_le_bytes}
 use Rattle.xor.proofs.Bits.{xor_assoc}
 use Rattle.xor.specs.Xors.{xors}
 use Rattle.crc.specs.Crc.{feed, bits, bits_of, bit_step, Bytes}
@@ -96,48 +97,6 @@ pub read-piece : (b : List ℕ) (p : ℕ) → Bytes b → p + 8 ≤ length b →
 unfolding on feed piece
 read-piece b p small h = read_up b p 0 7 small (omega arith) (omega arith)
 
--- ---- the order in which the bytes are read
-
--- the same bytes, from the highest on, after some that are higher still
-abbrev pub downs : (ℕ → ℕ → ℕ) → ℕ → ℕ → List ℕ → ℕ → ℕ
-downs add zero a b p = add a (get_or b p 0)
-downs add (suc n) a b p = downs add n (add a (get_or b (p + suc n) 0 * 2 ^ (8 * suc n) % 2 ^ 64)) b p
-
-downs-xor : (n a : ℕ) (b : List ℕ) (p : ℕ) → downs bit_xor n a b p ≡ bit_xor a (little n b p)
-downs-xor zero a b p = refl
-downs-xor (suc n) a b p =
-    let t = get_or b (p + suc n) 0 * 2 ^ (8 * suc n) % 2 ^ 64 in
-    downs-xor n (bit_xor a t) b p ∙ xor_assoc a t (little n b p) ∙ ap (bit_xor a) (xor_comm t (little n b p))
-
-above : (a x j : ℕ) → a * 2 ^ (8 + j) + x * 2 ^ j ≡ (a * 256 + x) * 2 ^ j
-above a x j =
-    ap (λ (y : ℕ). a * y + x * 2 ^ j) (pow-add 2 8 j) ∙ ap (λ (y : ℕ). y + x * 2 ^ j) (sym (mul_assoc a 256 (2 ^ j))) ∙ sym (add-mul (a * 256) x (2 ^ j))
-
--- no two of them meet, so that `or` does as well
-downs-or : (n a : ℕ) (b : List ℕ) (p : ℕ) → Bytes b → n < 7 → downs bit_or n (a * 2 ^ (8 * suc n)) b p ≡ downs bit_xor n (a * 2 ^ (8 * suc n)) b p
-downs-or zero a b p small h = or_shifted a 8 (get_or b p 0) (small p) ∙ sym (xor_shifted a 8 (get_or b p 0) (small p))
-downs-or (suc n) a b p small h =
-    let x = get_or b (p + suc n) 0 in
-    let j = 8 * suc n in
-    let k : 8 * suc (suc n) ≡ 8 + j = omega arith in
-    let t = x * 2 ^ j % 2 ^ 64 in
-    let e : t ≡ x * 2 ^ j = placed_byte x n (small (p + suc n)) (omega arith) in
-    let l : t < 2 ^ (8 + j) = rw e (shl_lt {a = x} 8 j (small (p + suc n))) in
-    let up : a * 2 ^ (8 + j) + t ≡ (a * 256 + x) * 2 ^ j = ap (λ (y : ℕ). a * 2 ^ (8 + j) + y) e ∙ above a x j in
-    ap (λ (i : ℕ). downs bit_or n (bit_or (a * 2 ^ i) t) b p) k
-    ∙ ap (λ (y : ℕ). downs bit_or n y b p) (or_shifted a (8 + j) t l ∙ up)
-    ∙ downs-or n (a * 256 + x) b p small (omega arith)
-    ∙ ap (λ (y : ℕ). downs bit_xor n y b p) (sym (xor_shifted a (8 + j) t l ∙ up))
-    ∙ ap (λ (i : ℕ). downs bit_xor n (bit_xor (a * 2 ^ i) t) b p) (sym k)
-
-pub read_down : (n : ℕ) (b : List ℕ) (p : ℕ) → Bytes b → n < 7 → downs bit_or n (get_or b (p + suc n) 0 * 2 ^ (8 * suc n) % 2 ^ 64) b p ≡ little (suc n) b p
-read_down n b p small h =
-    let x = get_or b (p + suc n) 0 in
-    let top = x * 2 ^ (8 * suc n) % 2 ^ 64 in
-    let e : top ≡ x * 2 ^ (8 * suc n) = placed_byte x n (small (p + suc n)) h in
-    ap (λ (y : ℕ). downs bit_or n y b p) e ∙ downs-or n x b p small h ∙ ap (λ (y : ℕ). downs bit_xor n y b p) (sym e)
-    ∙ downs-xor n top b p ∙ xor_comm top (little n b p)
-
 -- ---- a word cut
 
 little-lt : (b : List ℕ) (p n : ℕ) → Bytes b → n < 8 → little n b p < 2 ^ (8 * suc n)
@@ -185,3 +144,27 @@ up-little b p k d s small h e =
     ap (λ (n : ℕ). little (k + d) b p * 2 ^ s % 2 ^ n) (sym e) ∙ up-cut (little (k + d) b p) (8 * suc k) s
     ∙ ap (λ (v : ℕ). v * 2 ^ s) (cut b p k d small h ∙ sym (mod-eq_of_lt (little-lt b p k small (omega arith))))
     ∙ sym (up-cut (little k b p) (8 * suc k) s) ∙ ap (λ (n : ℕ). little k b p * 2 ^ s % 2 ^ n) e
+
+-- ---- the bytes as they are read
+
+-- the same bytes, added
+abbrev sums : ℕ → List ℕ → ℕ → ℕ
+sums zero b p = get_or b p 0
+sums (suc n) b p = sums n b p + get_or b (p + suc n) 0 * 2 ^ (8 * suc n)
+
+-- no two of them meet
+little-sums : (n : ℕ) (b : List ℕ) (p : ℕ) → Bytes b → n < 8 → little n b p ≡ sums n b p
+little-sums zero b p small h = refl
+little-sums (suc n) b p small h =
+    let x = get_or b (p + suc n) 0 in
+    let k = 8 * suc n in
+    let l = little n b p in
+    ap (bit_xor l) (placed_byte x n (small (p + suc n)) (omega arith)) ∙ xor_comm l (x * 2 ^ k)
+    ∙ xor_shifted x k l (little-lt b p n small (omega arith)) ∙ add_comm (x * 2 ^ k) l
+    ∙ ap (λ (y : ℕ). y + x * 2 ^ k) (little-sums n b p small (omega arith))
+
+pub read_sum : (b : List ℕ) (p : ℕ) → Bytes b
+    → from_le_bytes w64
+    (get_or b p 0 ∷ get_or b (p + 1) 0 ∷ get_or b (p + 2) 0 ∷ get_or b (p + 3) 0 ∷ get_or b (p + 4) 0 ∷ get_or b (p + 5) 0 ∷ get_or b (p + 6) 0 ∷ get_or b (p + 7) 0 ∷ [])
+    ≡ little 7 b p
+read_sum b p small = sym (little-sums 7 b p small (omega arith))

@@ -3,13 +3,13 @@
 -- Assumes nothing.
 use mathlib.Core.Path.{◌≡◌, refl, sym, ap, ap₂, ◌∙◌}
 use mathlib.Core.List.{List, [], ◌∷◌}
-use Prim.Native.Nat.{ℕ, suc, ◌+◌, ◌*◌, ◌/◌, ◌%◌, ◌^◌, ◌≤◌, ◌<◌}
-use native.Mathlib.Numerals.{add-one, add-two}
+use Prim.Native.Nat.{ℕ, zero, suc, ◌+◌, ◌*◌, ◌/◌, ◌%◌, ◌^◌, ◌≤◌, ◌<◌}
 use native.Mathlib.Omega.{arith}
-use lib.ListN.{length, get_or, take, drop, length-drop, take-append-drop, drop_of_length-le}
-use lib.Seq.{drop-cons, drop-drop, length-take-le}
+use lib.ListN.{length, get_or, take, drop, length-drop, take-append-drop}
+use lib.Seq.{take_all, drop-drop, length-take-le}
 use lib.Pow.{shl_exact}
 use lib.Bits.{bit_xor, xor_comm, xor_lt, xor_zero_r, xor_shifted}
+use Rattle.std.specs.Simd.{first_chunks}
 use Rattle.crc.specs.Crc.{feed, bits, bits_of, bit_step}
 use Rattle.crc.specs.Guard.{run, guard}
 use Rattle.crc.proofs.Joined.{run-joined, run-nil}
@@ -74,20 +74,34 @@ two_more r x y h hx hy =
 pub one_more : (r x : ℕ) → r < 2 ^ 16 → x < 256 → bit_xor (r % 256 * 256) (rest (bit_xor (r / 256) x)) ≡ run r (x ∷ [])
 one_more r x h hx = ap (bit_xor (r % 256 * 256)) (byte_rest (bit_xor (r / 256) x) (xor_lt 8 (r / 256) x (omega arith) hx)) ∙ sym (by_byte r x h)
 
--- ---- the loop over a few bytes: two more, a last one, and none
+-- ---- a run chunk by chunk: a word more, two bytes more, a last one, and none
 
-pub few-turn : (r q i : ℕ) (b : List ℕ) → i + 1 < length b → q ≡ run r (get_or b i 0 ∷ get_or b (i + 1) 0 ∷ []) → run q (drop (i + 2) b) ≡ run r (drop i b)
-few-turn r q i b h e =
-    let here : i < length b = omega arith in
-    let next : suc i < length b = omega arith in
-    ap (λ (x : ℕ). run x (drop (i + 2) b)) e ∙ sym (run-joined r (get_or b i 0 ∷ get_or b (i + 1) 0 ∷ []) (drop (i + 2) b))
-    ∙ ap (run r) (rw (add-one, add-two, drop-cons b i 0 here, drop-cons b (suc i) 0 next))
+pub word-more : (w v q : ℕ) (l chunk : List ℕ) → 8 ≤ length l → chunk ≡ take 8 l → rest w ≡ after 64 (rest v) (rest q) → rest q ≡ bit_xor (piece chunk 0) (seen 0)
+    → run (rest w) (drop 8 l) ≡ run (rest v) l
+unfolding piece
+word-more w v q l chunk h cut e k =
+    let all : take 8 chunk ≡ take 8 l = ap (take 8) cut ∙ take_all 8 (take 8 l) (omega (arith, length-take-le 8 l h)) in
+    word-turn w v q 0 l h e (k ∙ ap (λ (x : ℕ). bit_xor x (seen 0)) (ap guard all))
 
-pub few-last : (r i : ℕ) (b : List ℕ) → i + 1 ≡ length b → run r (get_or b i 0 ∷ []) ≡ run r (drop i b)
-few-last r i b h =
-    let here : i < length b = omega arith in
-    let none : length b ≤ suc i = omega arith in
-    sym (ap (run r) (drop-cons b i 0 here ∙ ap (λ (l : List ℕ). get_or b i 0 ∷ l) (drop_of_length-le b none)))
+-- the chunk i of a run that is cut into chunks of n
+pub chunk-at : (n k : ℕ) (l : List ℕ) (i : ℕ) (d : List ℕ) → i < k → get_or (first_chunks n k l) i d ≡ take n (drop (n * i) l)
+chunk-at n zero l i d h = absurd (omega arith)
+chunk-at n (suc k) l zero d h = let none : n * 0 ≡ 0 = omega arith in ap (λ (j : ℕ). take n (drop j l)) (sym none)
+chunk-at n (suc k) l (suc i) d h =
+    let more : n + n * i ≡ n * suc i = omega arith in
+    chunk-at n k (drop n l) i d (omega arith) ∙ ap (take n) (drop-drop (n * i) n l ∙ ap (λ (j : ℕ). drop j l) more)
 
-pub few-none : (r i : ℕ) (b : List ℕ) → length b ≤ i → r ≡ run r (drop i b)
-few-none r i b h = sym (run-nil r) ∙ ap (run r) (sym (drop_of_length-le b h))
+pub few-turn : (r q : ℕ) (l chunk : List ℕ) → 1 < length l → chunk ≡ take 2 l → q ≡ run r (get_or chunk 0 0 ∷ get_or chunk 1 0 ∷ []) → run q (drop 2 l) ≡ run r l
+few-turn r q [] chunk h cut e = absurd (omega arith)
+few-turn r q (x ∷ []) chunk h cut e = absurd (omega arith)
+few-turn r q (x ∷ y ∷ l) chunk h cut e =
+    ap (λ (z : ℕ). run z l) (e ∙ ap (λ (c : List ℕ). run r (get_or c 0 0 ∷ get_or c 1 0 ∷ [])) cut) ∙ sym (run-joined r (x ∷ y ∷ []) l)
+
+pub few-last : (r x : ℕ) (l : List ℕ) → 0 < length l → length l < 2 → x ≡ get_or l 0 0 → run r (x ∷ []) ≡ run r l
+few-last r x [] some h e = absurd (omega arith)
+few-last r x (y ∷ []) some h e = ap (λ (z : ℕ). run r (z ∷ [])) e
+few-last r x (y ∷ z ∷ l) some h e = absurd (omega arith)
+
+pub few-none : (r : ℕ) (l : List ℕ) → length l ≡ 0 → r ≡ run r l
+few-none r [] h = sym (run-nil r)
+few-none r (x ∷ l) h = absurd (omega arith)

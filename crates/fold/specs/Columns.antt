@@ -42,7 +42,7 @@ abbrev pub Laned : ℕ → List ℕ → List ℕ → ℕ → Type 0
 Laned r b out n = (l : ℕ) → l < n → rest (get_or out l 0) ≡ column (nine (bit_xor (brought b (8 * l)) (firstly r l)) (brought b (224 + 8 * l)) b (8 * l))
 
 -- of the runs a stride apart in b, the first n: out has their lanes, four words each, which come to their registers
-abbrev pub Come : ℕ → ℕ → List ℕ → List ℕ → ℕ → Type 0
+abbrev pub Come : ℕ → ℕ → List ℕ → List (List ℕ) → ℕ → Type 0
 Come r stride b out n =
     (k : ℕ) → k < n
-    → quad (rest (get_or out (4 * k) 0)) (rest (get_or out (4 * k + 1) 0)) (rest (get_or out (4 * k + 2) 0)) (rest (get_or out (4 * k + 3) 0)) ≡ run r (take 512 (drop (k * stride) b))
+    → quad (rest (get_or (get_or out k []) 0 0)) (rest (get_or (get_or out k []) 1 0)) (rest (get_or (get_or out k []) 2 0)) (rest (get_or (get_or out k []) 3 0)) ≡ run r (take 512 (drop (k * stride) b))

@@ -14,26 +14,21 @@ ghost use Rattle.fold.specs.Columns.{four};
 pub use lanes::{guard, guards, run};
 use words::turned;
 
-// A byte as a word.
-fn wide(x: u8) -> u64
-    ensures { result ≡ x }
-{
-    x as u64
-}
-
 // Eight bytes as a word.
 fn word(b: &[u8], p: usize) -> u64
     requires { p + 8 ≤ length b.now }
     ensures { result ≡ little 7 b.now p }
 {
-    wide(b[p + 7]) << 56
-        | wide(b[p + 6]) << 48
-        | wide(b[p + 5]) << 40
-        | wide(b[p + 4]) << 32
-        | wide(b[p + 3]) << 24
-        | wide(b[p + 2]) << 16
-        | wide(b[p + 1]) << 8
-        | wide(b[p])
+    u64::from_le_bytes([
+        b[p],
+        b[p + 1],
+        b[p + 2],
+        b[p + 3],
+        b[p + 4],
+        b[p + 5],
+        b[p + 6],
+        b[p + 7],
+    ])
 }
 
 // Two words added.

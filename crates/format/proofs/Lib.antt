@@ -5,3 +5,4 @@ pub mod References
 pub mod Past
 pub mod Figures
 pub mod Ranges
+pub mod Meant

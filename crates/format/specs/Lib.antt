@@ -1,4 +1,5 @@
 pub mod Formats
 pub mod Packed
 pub mod Methods
+pub mod Kinds
 pub mod Positions

@@ -7,19 +7,34 @@ mod positions;
 
 ghost use Rattle.std.specs.Prelude.{◌≡◌, ◌≢◌, ◌*◌, ◌/◌, ◌%◌};
 ghost use Rattle.format.specs.Formats.{guard, settled, reference_of, guards_of};
+ghost use Rattle.format.specs.Kinds.{format_by};
 ghost use Rattle.format.specs.Methods.{format_of};
 
 pub use packing::{most_value, register_of, value_in, waiting_in};
 use packing::{packed, unpacked};
 pub use positions::{data_room, part_at, tag_place};
 
-// The method whose guard is the checksum.
-const CHECKSUM: u8 = 2;
+// The kinds of format: small blocks with the CRC or with the checksum, and large ones.
+#[derive(Clone, Copy, Debug, PartialEq, Eq)]
+enum Kind {
+    Crc,
+    Checksum,
+    Large,
+}
 
-// That whose blocks are large.
-const LARGE: u8 = 3;
+// What a method number means.
+// Stays: a method is a number for callers, as an array's numbers are taken as they are handed in: 12 refuses one that is none, and every function promises an answer for it.
+fn kind_of(method: u8) -> Kind
+    ensures { format_by result ≡ format_of method }
+{
+    match method {
+        2 => Kind::Checksum,
+        3 => Kind::Large,
+        _ => Kind::Crc,
+    }
+}
 
-// By it, the guard of a block of zeros.
+// The guard of a large block of zeros.
 const BLANK: u32 = 0x98F94189;
 
 // The most bytes of data, and of the tags of sixteen blocks, that any format has: room for those of each.
@@ -34,7 +49,7 @@ pub const USUAL_TAG: usize = 8;
 pub const PIECE: usize = 512;
 
 // What a byte of a block is, with its place among the bytes of its kind.
-#[derive(Clone, Copy)]
+#[derive(Clone, Copy, Debug, PartialEq, Eq)]
 pub enum Part {
     Data { at: usize },
     Guard { at: usize },
@@ -43,66 +58,98 @@ pub enum Part {
     Past,
 }
 
-// Bytes of data in a block, of tag after them, of both, and a quarter of the tag.
+// Bytes of data in a block, of tag after them, and a quarter of the tag.
+#[derive(Clone, Copy, Debug, PartialEq, Eq)]
+struct Lengths {
+    data: usize,
+    tag: usize,
+    quarter: usize,
+}
+
+const SMALL: Lengths = Lengths {
+    data: 512,
+    tag: 8,
+    quarter: 2,
+};
+
+const LARGE: Lengths = Lengths {
+    data: 4096,
+    tag: 16,
+    quarter: 4,
+};
+
+fn lengths_of(method: u8) -> Lengths
+    ensures data_is { result.data ≡ (format_of method).data_length }
+    ensures tag_is { result.tag ≡ (format_of method).tag_length }
+    ensures quarter_is { result.quarter ≡ (format_of method).quarter }
+{
+    match kind_of(method) {
+        Kind::Crc | Kind::Checksum => SMALL,
+        Kind::Large => LARGE,
+    }
+}
+
+// The same, and the bytes of a block.
 pub fn data_length(method: u8) -> usize
     ensures { result ≡ (format_of method).data_length }
 {
-    if method == LARGE { 4096 } else { 512 }
+    lengths_of(method).data
 }
 
 pub fn tag_length(method: u8) -> usize
     ensures { result ≡ (format_of method).tag_length }
 {
-    if method == LARGE { 16 } else { 8 }
-}
-
-pub fn block_length(method: u8) -> usize
-    ensures { result ≡ (format_of method).block_length }
-{
-    if method == LARGE { 4112 } else { 520 }
+    lengths_of(method).tag
 }
 
 pub fn quarter(method: u8) -> usize
     ensures { result ≡ (format_of method).quarter }
 {
-    if method == LARGE { 4 } else { 2 }
+    lengths_of(method).quarter
+}
+
+pub fn block_length(method: u8) -> usize
+    ensures { result ≡ (format_of method).block_length }
+{
+    let of = lengths_of(method);
+    of.data + of.tag
 }
 
 // An application tag of two bytes, as the number that its field holds.
 pub fn scaled(method: u8, application: u16) -> u64
     ensures { result ≡ application * (format_of method).scale }
 {
-    if method == LARGE {
-        return application as u64 * 65536;
+    match kind_of(method) {
+        Kind::Crc | Kind::Checksum => u64::from(application),
+        Kind::Large => u64::from(application) * 65536,
     }
-    application as u64
 }
 
 // The two bytes of an application tag, from the number that its field holds.
 pub fn unscaled(method: u8, application: u64) -> u64
     ensures { result ≡ application / (format_of method).scale }
 {
-    if method == LARGE {
-        return application / 65536;
+    match kind_of(method) {
+        Kind::Crc | Kind::Checksum => application,
+        Kind::Large => application / 65536,
     }
-    application
 }
 
 // The reference tag of a block number: all of it in a large block's tag, else its low thirty-two bits.
 pub fn reference(method: u8, block: u64) -> u64
     ensures { result ≡ reference_of (format_of method) block }
 {
-    if method == LARGE {
-        return block;
+    match kind_of(method) {
+        Kind::Crc | Kind::Checksum => block % 4294967296,
+        Kind::Large => block,
     }
-    block % 4294967296
 }
 
 // Whether the parity's tag holds what the data members' guards combine to; else it holds the guard of its own data.
 pub fn carries(method: u8) -> bool
     ensures { result ≡ (format_of method).carries }
 {
-    method == CHECKSUM
+    kind_of(method) == Kind::Checksum
 }
 
 // The guard of a large block of zeros for an odd number of members, nothing for an even one.
@@ -116,57 +163,50 @@ fn blank_if_odd(members: usize) -> u32
 pub fn settled(method: u8, members: usize) -> u32
     ensures { result ≡ settled (format_of method) members }
 {
-    if method == LARGE {
-        return blank_if_odd(members);
+    match kind_of(method) {
+        Kind::Crc | Kind::Checksum => 0,
+        Kind::Large => blank_if_odd(members),
     }
-    0
 }
 
 // Whether a byte may wait for its pair at a position of a block.
 pub fn waits(method: u8, position: usize) -> bool
     ensures { result ≡ (format_of method).waits position }
 {
-    if method == CHECKSUM {
-        return position % 2 == 1 && position < 512;
+    match kind_of(method) {
+        Kind::Checksum => position % 2 == 1 && position < 512,
+        Kind::Crc | Kind::Large => false,
     }
-    false
 }
 
 // The guard of some data.
 pub fn guard(method: u8, bytes: &[u8]) -> u32
     ensures { result ≡ guard (format_of method) bytes.now }
 {
-    if method == CHECKSUM {
-        return checksum::checksum(bytes) as u32;
+    match kind_of(method) {
+        Kind::Crc => u32::from(fold::guard(bytes)),
+        Kind::Checksum => u32::from(checksum::checksum(bytes)),
+        Kind::Large => castagnoli_fold::crc32c(bytes),
     }
-    if method == LARGE {
-        return castagnoli_fold::crc32c(bytes);
-    }
-    fold::guard(bytes) as u32
 }
 
 // The same sixteen numbers, wider.
 fn widened(narrow: [u16; 16]) -> [u32; 16]
     ensures { result ≡ narrow }
 {
-    let mut wide = [0u32; 16];
-    let mut i: usize = 0;
-    while i < 16 {
-        wide[i] = narrow[i] as u32;
-        i += 1;
-    }
-    wide
+    narrow.map(|guard| u32::from(guard))
 }
 
 // The guards of sixteen runs where they have sixteen bits.
-fn narrow_guards(method: u8, bytes: &[u8], stride: usize) -> [u16; 16]
-    requires { method ≢ 3 }
-    ensures { result ≡ guards_of (format_of method) 16 stride bytes.now }
+fn narrow_guards(kind: Kind, bytes: &[u8], stride: usize) -> [u16; 16]
+    requires { kind ≢ Kind.Large }
+    ensures { result ≡ guards_of (format_by kind) 16 stride bytes.now }
 {
-    if method == CHECKSUM {
-        return checksum::checksums(bytes, stride);
+    match kind {
+        Kind::Crc => fold::guards(bytes, stride),
+        Kind::Checksum => checksum::checksums(bytes, stride),
+        Kind::Large => unreachable!(),
     }
-    fold::guards(bytes, stride)
 }
 
 // The guards of sixteen runs of data, each `stride` bytes after the one before. What lies past the end has no bytes. They are made wider in one
@@ -174,23 +214,20 @@ fn narrow_guards(method: u8, bytes: &[u8], stride: usize) -> [u16; 16]
 pub fn guards(method: u8, bytes: &[u8], stride: usize) -> [u32; 16]
     ensures { result ≡ guards_of (format_of method) 16 stride bytes.now }
 {
-    if method == LARGE {
-        return castagnoli_fold::guards(bytes, stride);
+    match kind_of(method) {
+        Kind::Large => castagnoli_fold::guards(bytes, stride),
+        kind => widened(narrow_guards(kind, bytes, stride)),
     }
-    widened(narrow_guards(method, bytes, stride))
 }
 
 // Where a register starts.
 pub fn start(method: u8) -> u32
     ensures { result ≡ (format_of method).start }
 {
-    if method == CHECKSUM {
-        return 0xFFFF;
-    }
-    if method == LARGE {
-        castagnoli::start()
-    } else {
-        0
+    match kind_of(method) {
+        Kind::Crc => 0,
+        Kind::Checksum => 0xFFFF,
+        Kind::Large => castagnoli::start(),
     }
 }
 
@@ -198,27 +235,23 @@ pub fn start(method: u8) -> u32
 pub fn advance(method: u8, at: usize, register: u32, bytes: &[u8]) -> u32
     ensures { result ≡ (format_of method).advance at register bytes.now }
 {
-    if bytes.len() == 0 {
+    if bytes.is_empty() {
         return register;
     }
-    if method == CHECKSUM {
-        return packed(checksum::advance(at, unpacked(register), bytes));
+    match kind_of(method) {
+        Kind::Crc => u32::from(fold::run((register % 65536) as u16, bytes)),
+        Kind::Checksum => packed(checksum::advance(at, unpacked(register), bytes)),
+        Kind::Large => castagnoli_fold::advance(register, bytes),
     }
-    if method == LARGE {
-        return castagnoli_fold::advance(register, bytes);
-    }
-    fold::run((register % 65536) as u16, bytes) as u32
 }
 
 // The guard that a register gives.
 pub fn guard_of(method: u8, register: u32) -> u32
     ensures { result ≡ (format_of method).guard_of register }
 {
-    if method == CHECKSUM {
-        return register % 65536;
+    match kind_of(method) {
+        Kind::Crc => register,
+        Kind::Checksum => register % 65536,
+        Kind::Large => castagnoli::guard_of(register),
     }
-    if method == LARGE {
-        return castagnoli::guard_of(register);
-    }
-    register
 }

@@ -3,9 +3,10 @@ ghost use Rattle.std.specs.Prelude.{◌≡◌, ◌-◌, min};
 ghost use Rattle.format.specs.Positions.{part_at};
 ghost use Rattle.format.specs.Methods.{large, format_of};
 
-use crate::{LARGE, Part, data_length, quarter, tag_length};
+use crate::{Kind, Part, data_length, kind_of, quarter, tag_length};
 
 // What the byte at a position of a large block is.
+// Stays: the ranges as they are named, in a `match` for each length of a block: docs/PROOFS.md, the forms by place; docs/DECISIONS.md, 67.
 fn part_at_large(position: usize) -> Part
     ensures { result ≡ part_at large position }
 {
@@ -28,7 +29,7 @@ fn part_at_large(position: usize) -> Part
 pub fn part_at(method: u8, position: usize) -> Part
     ensures { result ≡ part_at (format_of method) position }
 {
-    if method == LARGE {
+    if let Kind::Large = kind_of(method) {
         return part_at_large(position);
     }
     match position {

@@ -7,7 +7,7 @@ use Prim.Native.Nat.{ℕ, zero, suc, ◌+◌, ◌-◌, ◌≤◌, ◌<◌}
 use native.Mathlib.Numerals.{add-one}
 use native.Mathlib.Omega.{arith}
 use borrow.Author.Tests.{eq-eqb, ne_eqb, eqb-true, lt-ltb, le-ltb}
-use lib.Dec.{eqb}
+use lib.Dec.{eqb, ltb}
 use lib.ListN.{length}
 use Rattle.layout.specs.Answers.{refuse, after, answer}
 use Rattle.layout.specs.Arrays.{stripe_refusal, block_refusal}
@@ -31,11 +31,29 @@ use Rattle.intent.specs.Records.{log_length, entries, many, named, entered, stru
 use Rattle.intent.specs.Calls.{open_refusal, recorded_refusal, log_after, recorded_log, recorded_bytes, recover_refusal, data_good, recover_numbers, recovers, recover_bytes, recover_log}
 use Rattle.intent.proofs.Logs.{after_none}
 
+-- ---- one test after another
+
+-- what the later tests give, where this one refuses nothing
+pub passed : (n later told : ℕ) → 0 ≡ n → told ≡ later → told ≡ after n later
+passed n later told z e = e ∙ ap (λ (k : ℕ). after k later) z
+
 -- ---- the record decides: 16, 14, 15
 
 module _ (a : Array) (stripe : ℕ) (log : List ℕ) where
   abbrev pub entry_number : ℕ
   entry_number = after (log_refusal a log) (entry_refusal stripe log)
+
+  pub entry_steps : (fits : Bool) (free twice : ℕ) → fits ≡ entries_fit a.stripes (entries log) → free ≡ many 0 (entries log)
+      → twice ≡ many (stripe + 1) (entries log) → after (cond fits 0 16) (after (cond (not (eqb free 0)) 0 14) (cond (eqb twice 0) 0 15)) ≡ entry_number
+  unfolding log_refusal entry_refusal
+  entry_steps fits free twice e f g =
+      by_tests fits (eqb free 0) twice ∙ rw (e, f, g, add-one)
+    where
+      by_tests : (f e : Bool) (n : ℕ) → after (cond f 0 16) (after (cond (not e) 0 14) (cond (eqb n 0) 0 15)) ≡ after (refuse (not f) 16 0) (refuse e 14 (refuse (ltb 0 n) 15 0))
+      by_tests false e n = refl
+      by_tests true true n = refl
+      by_tests true false zero = refl
+      by_tests true false (suc n) = rw (ne_eqb (suc n) 0 (λ z. omega arith), lt-ltb 0 (suc n) (omega arith))
 
   pub record_unfit : entries_fit a.stripes (entries log) ≡ false → 16 ≡ entry_number
   unfolding log_refusal
@@ -62,26 +80,27 @@ module _ (a : Array) (stripe : ℕ) (log : List ℕ) where
 -- ---- the lengths before it: 6
 
 module _ (a : Array) (stripe newBytes stripeBytes : ℕ) (log : List ℕ) where
-  pub open_other_stripe : stripeBytes ≢ stripe_length a → 6 ≡ open_refusal a stripe newBytes stripeBytes log
-  unfolding open_refusal
-  open_other_stripe h = rw (ne_eqb stripeBytes (stripe_length a) h)
-
-  pub open_other_data : newBytes ≢ (format_at a).data_length → 6 ≡ open_refusal a stripe newBytes stripeBytes log
-  unfolding open_refusal
-  open_other_data h = rw (ne_eqb newBytes (format_at a).data_length h) (by_flag (eqb stripeBytes (stripe_length a)))
+  pub open_steps : (size : ℕ) → stripe_refusal a stripe ≡ 0 → size ≡ (format_at a).data_length → length log ≡ log_length
+      → after (scrub_refusal a stripe stripeBytes) (after (cond (eqb newBytes size) 0 6) (entry_number a stripe log)) ≡ open_refusal a stripe newBytes stripeBytes log
+  unfolding open_refusal scrub_refusal
+  open_steps size sound e long =
+      rw (sound, e, eq-eqb (length log) log_length long) (by_tests (eqb stripeBytes (stripe_length a)) (eqb newBytes (format_at a).data_length) (entry_number a stripe log))
     where
-      by_flag : (f : Bool) → 6 ≡ refuse (not (f && false)) 6 (after (log_refusal a log) (entry_refusal stripe log))
-      by_flag true = refl
-      by_flag false = refl
+      by_tests : (f g : Bool) (n : ℕ) → after (refuse (not f) 6 0) (after (cond g 0 6) n) ≡ refuse (not (f && (g && true))) 6 n
+      by_tests false g n = refl
+      by_tests true false n = refl
+      by_tests true true n = refl
 
+  -- a record of another length
   pub open_other_log : length log ≢ log_length → 6 ≡ open_refusal a stripe newBytes stripeBytes log
   unfolding open_refusal
-  open_other_log h = rw (ne_eqb (length log) log_length h) (by_flags (eqb stripeBytes (stripe_length a)) (eqb newBytes (format_at a).data_length))
+  open_other_log h =
+      rw (ne_eqb (length log) log_length h) (by_tests (eqb stripeBytes (stripe_length a)) (eqb newBytes (format_at a).data_length) (entry_number a stripe log))
     where
-      by_flags : (f g : Bool) → 6 ≡ refuse (not (f && (g && false))) 6 (after (log_refusal a log) (entry_refusal stripe log))
-      by_flags true true = refl
-      by_flags true false = refl
-      by_flags false g = refl
+      by_tests : (f g : Bool) (n : ℕ) → 6 ≡ refuse (not (f && (g && false))) 6 n
+      by_tests false g n = refl
+      by_tests true false n = refl
+      by_tests true true n = refl
 
   pub open_long : stripeBytes ≡ stripe_length a → newBytes ≡ (format_at a).data_length → length log ≡ log_length
       → after (log_refusal a log) (entry_refusal stripe log) ≡ open_refusal a stripe newBytes stripeBytes log
@@ -173,27 +192,29 @@ module _ (a : Array) (block : ℕ) (new bytes log : List ℕ) (stores : ℕ) whe
 -- ---- the recovery: refusals
 
 module _ (a : Array) (stripe stripeBytes : ℕ) (log : List ℕ) where
-  pub recover_place : (number : ℕ) → number ≡ scrub_refusal a stripe stripeBytes → number ≢ 0 → number ≡ recover_refusal a stripe stripeBytes log
+  pub recover_steps : after (scrub_refusal a stripe stripeBytes) (after (cond (eqb (length log) log_length) 0 6) (log_refusal a log)) ≡ recover_refusal a stripe stripeBytes log
   unfolding scrub_refusal recover_refusal
-  recover_place number e h = by_number (stripe_refusal a stripe) (eqb stripeBytes (stripe_length a)) e
+  recover_steps =
+      by_tests (stripe_refusal a stripe) (eqb stripeBytes (stripe_length a)) (eqb (length log) log_length) (log_refusal a log)
     where
-      by_number : (n : ℕ) (f : Bool) → number ≡ after n (refuse (not f) 6 0) → number ≡ after n (refuse (not (f && eqb (length log) log_length)) 6 (log_refusal a log))
-      by_number zero true e = absurd (h e)
-      by_number zero false e = e
-      by_number (suc n) f e = e
+      by_tests : (n : ℕ) (f g : Bool) (l : ℕ) → after (after n (refuse (not f) 6 0)) (after (cond g 0 6) l) ≡ after n (refuse (not (f && g)) 6 l)
+      by_tests (suc n) f g l = refl
+      by_tests zero false g l = refl
+      by_tests zero true false l = refl
+      by_tests zero true true l = refl
 
-  module _ (taken : scrub_refusal a stripe stripeBytes ≡ 0) where
-    pub recover_other_log : length log ≢ log_length → 6 ≡ recover_refusal a stripe stripeBytes log
-    unfolding recover_refusal
-    recover_other_log h =
-        let s = scrub_sound a stripe stripeBytes taken in
-        rw (s.0, eq-eqb stripeBytes (stripe_length a) s.1, ne_eqb (length log) log_length h)
+  -- a record of another length
+  pub recover_other_log : scrub_refusal a stripe stripeBytes ≡ 0 → length log ≢ log_length → 6 ≡ recover_refusal a stripe stripeBytes log
+  unfolding recover_refusal
+  recover_other_log taken h =
+      let s = scrub_sound a stripe stripeBytes taken in
+      rw (s.0, eq-eqb stripeBytes (stripe_length a) s.1, ne_eqb (length log) log_length h)
 
-    pub recover_by_log : length log ≡ log_length → log_refusal a log ≡ recover_refusal a stripe stripeBytes log
-    unfolding recover_refusal
-    recover_by_log h =
-        let s = scrub_sound a stripe stripeBytes taken in
-        rw (s.0, eq-eqb stripeBytes (stripe_length a) s.1, eq-eqb (length log) log_length h)
+  pub recover_by_log : scrub_refusal a stripe stripeBytes ≡ 0 → length log ≡ log_length → log_refusal a log ≡ recover_refusal a stripe stripeBytes log
+  unfolding recover_refusal
+  recover_by_log taken h =
+      let s = scrub_sound a stripe stripeBytes taken in
+      rw (s.0, eq-eqb stripeBytes (stripe_length a) s.1, eq-eqb (length log) log_length h)
 
   -- and back
   pub recover_told : recover_refusal a stripe stripeBytes log ≡ 0 → (scrub_refusal a stripe stripeBytes ≡ 0) × ((length log ≡ log_length) × (log_refusal a log ≡ 0))
@@ -205,9 +226,14 @@ module _ (a : Array) (stripe stripeBytes : ℕ) (log : List ℕ) where
       let l = both (eqb stripeBytes (stripe_length a)) (eqb (length log) log_length) q.0 in
       (sound_scrub a stripe stripeBytes p.0 (eqb-true stripeBytes (stripe_length a) l.0), (eqb-true (length log) log_length l.1, q.1))
 
-pub log_unfit : (a : Array) (log : List ℕ) → entries_fit a.stripes (entries log) ≡ false → 16 ≡ log_refusal a log
+pub log_told : (a : Array) (log : List ℕ) (fits : Bool) → fits ≡ entries_fit a.stripes (entries log) → cond fits 0 16 ≡ log_refusal a log
 unfolding log_refusal
-log_unfit a log h = rw h
+log_told a log fits e =
+    rw e (by_test (entries_fit a.stripes (entries log)))
+  where
+    by_test : (f : Bool) → cond f 0 16 ≡ refuse (not f) 16 0
+    by_test true = refl
+    by_test false = refl
 
 pub log_fit : (a : Array) (log : List ℕ) → entries_fit a.stripes (entries log) ≡ true → 0 ≡ log_refusal a log
 unfolding log_refusal

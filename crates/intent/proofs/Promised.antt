@@ -8,6 +8,9 @@ use Prim.Native.Nat.{ℕ, ◌<◌}
 use contract.Lifetimes.{Lfts}
 use borrow.Fn.Kinds.{Dens, ended_of}
 use denote.Triple.Clauses.{AtExit}
+use Rattle.std.specs.Prelude.{Result}
+use Rattle.refusal.specs.Refusals.{told}
+use Rattle.refusal.specs.declared.Refusal.{Refusal}
 use Rattle.layout.specs.Places.{stripe_of}
 use Rattle.stripe.specs.Verdicts.{scrub_numbers, clean}
 use Rattle.intent.specs.declared.Recovery.{Recovery}
@@ -25,7 +28,7 @@ use Rattle.intent.proofs.recovering.recover.Reads as recover-reads
 
 -- A call is its arguments a, its result r, and e, what its borrows hold at the end; both a and e are in the order of the parameters.
 -- Of `update`: .0 the array, .1 .0 the block, .1 .1 .0 the data, .1 .1 .1 .0 the stripe, .1 .1 .1 .1 .0 the record, .1 .1 .1 .1 .1 .0 the stores
-module _ (κs : Lfts 3) (a : Dens κs update-kinds.ps) (r : ℕ) (e : AtExit (ended_of 3 update-kinds.ps update-kinds.r) κs) where
+module _ (κs : Lfts 3) (a : Dens κs update-kinds.ps) (r : Result (Unit {0}) Refusal) (e : AtExit (ended_of 3 update-kinds.ps update-kinds.r) κs) where
   pub update_steps : update-reads.Learnt κs a r e → (stripe : ℕ) → stripe_of a.0 a.1.0 ≢ stripe → {last : List ℕ}
       → Meanwhile a.0 stripe e.1.1.1.1.0.now last → Meanwhile a.0 stripe a.1.1.1.1.0.now last
   update_steps promised stripe ne {last} rest =
@@ -33,7 +36,7 @@ module _ (κs : Lfts 3) (a : Dens κs update-kinds.ps) (r : ℕ) (e : AtExit (en
       (subst (λ (x : List ℕ). Meanwhile a.0 stripe x last) promised.1.1 rest)
 
 -- of `recover`: .0 the array, .1 .0 the stripe, .1 .1 .0 its bytes, .1 .1 .1 .0 the record
-module _ (κs : Lfts 2) (a : Dens κs recover-kinds.ps) (r : Recovery) (e : AtExit (ended_of 2 recover-kinds.ps recover-kinds.r) κs) where
+module _ (κs : Lfts 2) (a : Dens κs recover-kinds.ps) (r : Result Recovery Refusal) (e : AtExit (ended_of 2 recover-kinds.ps recover-kinds.r) κs) where
   pub recover_steps : recover-reads.Learnt κs a r e → (stripe : ℕ) → a.1.0 ≢ stripe → {last : List ℕ}
       → Meanwhile a.0 stripe e.1.1.1.0.now last → Meanwhile a.0 stripe a.1.1.1.0.now last
   recover_steps promised stripe ne {last} rest =
@@ -41,7 +44,7 @@ module _ (κs : Lfts 2) (a : Dens κs recover-kinds.ps) (r : Recovery) (e : AtEx
 
 -- THE SECOND: of any call, refused or not and cut anywhere, a record that fits the array goes on to fit, so that no stripe is ever in it twice
 -- (`never_twice`); and every other stripe is named as it was: no call loses or makes an entry of another
-module _ (κs : Lfts 3) (a : Dens κs update-kinds.ps) (r : ℕ) (e : AtExit (ended_of 3 update-kinds.ps update-kinds.r) κs) where
+module _ (κs : Lfts 3) (a : Dens κs update-kinds.ps) (r : Result (Unit {0}) Refusal) (e : AtExit (ended_of 3 update-kinds.ps update-kinds.r) κs) where
   pub update_keeps : update-reads.Learnt κs a r e → Log a.0 a.1.1.1.1.0.now
       → Log a.0 e.1.1.1.1.0.now × ((t : ℕ) → t ≢ stripe_of a.0 a.1.0 → named t e.1.1.1.1.0.now ≡ named t a.1.1.1.1.0.now)
   update_keeps promised fits =
@@ -54,7 +57,7 @@ module _ (κs : Lfts 3) (a : Dens κs update-kinds.ps) (r : ℕ) (e : AtExit (en
         λ t ne. ap (named t) promised.1.1 ∙ update_keeps_names a.0 log fits block new bytes stores t ne,
       )
 
-module _ (κs : Lfts 2) (a : Dens κs recover-kinds.ps) (r : Recovery) (e : AtExit (ended_of 2 recover-kinds.ps recover-kinds.r) κs) where
+module _ (κs : Lfts 2) (a : Dens κs recover-kinds.ps) (r : Result Recovery Refusal) (e : AtExit (ended_of 2 recover-kinds.ps recover-kinds.r) κs) where
   pub recover_keeps : recover-reads.Learnt κs a r e → Log a.0 a.1.1.1.0.now
       → Log a.0 e.1.1.1.0.now × ((t : ℕ) → t ≢ a.1.0 → named t e.1.1.1.0.now ≡ named t a.1.1.1.0.now)
   recover_keeps promised fits =
@@ -67,9 +70,9 @@ module _ (κs : Lfts 2) (a : Dens κs recover-kinds.ps) (r : Recovery) (e : AtEx
 
 -- THE THEOREM: an update of a clean stripe is accepted and cut after any number of stores; then come any calls for other stripes, and the stripe is
 -- left alone but for its parity while it is entered; then it is recovered
-pub cut_then_recovered : (κs : Lfts 3) (a : Dens κs update-kinds.ps) (r : ℕ) (e : AtExit (ended_of 3 update-kinds.ps update-kinds.r) κs)
-    → update-reads.Learnt κs a r e → r ≡ 0 → a.0.volume < 256 → scrub_numbers a.0 (stripe_of a.0 a.1.0) a.1.1.1.0.now ≡ clean
-    → (κt : Lfts 2) (b : Dens κt recover-kinds.ps) (q : Recovery) (f : AtExit (ended_of 2 recover-kinds.ps recover-kinds.r) κt)
+pub cut_then_recovered : (κs : Lfts 3) (a : Dens κs update-kinds.ps) (r : Result (Unit {0}) Refusal) (e : AtExit (ended_of 3 update-kinds.ps update-kinds.r) κs)
+    → update-reads.Learnt κs a r e → told r ≡ 0 → a.0.volume < 256 → scrub_numbers a.0 (stripe_of a.0 a.1.0) a.1.1.1.0.now ≡ clean
+    → (κt : Lfts 2) (b : Dens κt recover-kinds.ps) (q : Result Recovery Refusal) (f : AtExit (ended_of 2 recover-kinds.ps recover-kinds.r) κt)
     → recover-reads.Learnt κt b q f → b.0 ≡ a.0 → b.1.0 ≡ stripe_of a.0 a.1.0
     → Meanwhile a.0 (stripe_of a.0 a.1.0) e.1.1.1.1.0.now b.1.1.1.0.now
     → Untouched a.0 (stripe_of a.0 a.1.0) e.1.1.1.1.0.now e.1.1.1.0.now b.1.1.0.now

@@ -1,7 +1,9 @@
 -- An update that enters its stripe in the log while it is open, in four stores: enter, data block, parity block, strike out; told after how
 -- many of them to stop. And the recovery of a stripe. For each its refusal number, its answer in numbers, and what both lent buffers hold
 -- afterwards. Assumes nothing.
-use Rattle.std.specs.Prelude.{ℕ, ◌-◌, Bool, not, cond, ◌&&◌, List, [], ◌∷◌, eqb, ltb, length}
+use Rattle.std.specs.Prelude.{ℕ, ◌-◌, Bool, not, cond, ◌&&◌, List, [], ◌∷◌, eqb, ltb, length, Result, Ok, Err}
+use Rattle.refusal.specs.Refusals.{number}
+use Rattle.refusal.specs.declared.Refusal.{Refusal}
 use Rattle.layout.specs.Answers.{refuse, after, answer}
 use Rattle.layout.specs.Arrays.{stripe_refusal, block_refusal}
 use Rattle.layout.specs.Places.{parity_member, stripe_of}
@@ -12,7 +14,7 @@ use Rattle.stripe.specs.Jobs.{unless_refused, update_refusal, rebuilt}
 use Rattle.stripe.specs.InPart.{part_bytes, first_amiss}
 use Rattle.intent.specs.Records.{log_length, named, entered, struck, log_refusal, entry_refusal}
 use Rattle.intent.specs.declared.Recovery.{Recovery}
-use Rattle.intent.specs.declared.Recovery.TheVariants.{Refused, NotEntered, Recovered, Left}
+use Rattle.intent.specs.declared.Recovery.TheVariants.{NotEntered, Recovered, Left}
 
 -- ---- the update
 
@@ -53,11 +55,11 @@ recover_numbers a stripe bytes log =
     answer (recover_refusal a stripe (length bytes) log)
     (cond (named stripe log) (cond (data_good a stripe bytes) (1 ∷ 0 ∷ []) (2 ∷ first_amiss a stripe bytes ∷ [])) (0 ∷ 0 ∷ []))
 
-abbrev pub recovery_numbers : Recovery → List ℕ
-recovery_numbers (Refused number) = 0 ∷ number ∷ 0 ∷ 0 ∷ []
-recovery_numbers NotEntered = 1 ∷ 0 ∷ 0 ∷ 0 ∷ []
-recovery_numbers Recovered = 1 ∷ 0 ∷ 1 ∷ 0 ∷ []
-recovery_numbers (Left member) = 1 ∷ 0 ∷ 2 ∷ member ∷ []
+abbrev pub recovery_numbers : Result Recovery Refusal → List ℕ
+recovery_numbers (Err refusal) = 0 ∷ number refusal ∷ 0 ∷ 0 ∷ []
+recovery_numbers (Ok NotEntered) = 1 ∷ 0 ∷ 0 ∷ 0 ∷ []
+recovery_numbers (Ok Recovered) = 1 ∷ 0 ∷ 1 ∷ 0 ∷ []
+recovery_numbers (Ok (Left member)) = 1 ∷ 0 ∷ 2 ∷ member ∷ []
 
 -- done where none of this stands in the way
 unfoldable pub recovers : Array → ℕ → List ℕ → List ℕ → Bool

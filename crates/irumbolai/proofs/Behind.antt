@@ -14,17 +14,18 @@ use Rattle.verdict.specs.Verdicts.{verdict_numbers}
 use Rattle.stripe.specs.Verdicts.{scrub_refusal}
 use Rattle.patrol.specs.declared.Patrol.{Patrol}
 use Rattle.patrol.specs.declared.Seen.TheVariants.{Stripe}
+use Rattle.std.specs.Prelude.{Ok}
 use Rattle.patrol.specs.Patrols.{turn_refusal, turn_numbers, request_refusal, request_numbers, scrub_of, seen_numbers, refused_by}
 use Rattle.patrol.proofs.Rows.{turn_takes, request_takes}
 use Rattle.patrol.proofs.Answers.{turn_refused, busy_sees, idle_sees, request_refused, request_sees}
 use Rattle.patrol.proofs.Occurring.{some_scrub, some-seen}
-use Rattle.irumbolai.specs.Answers.{unflagged, spread}
-use Rattle.irumbolai.proofs.Verdicts.{Small, scrub_small}
+use Rattle.irumbolai.specs.Answers.{unflagged, spread, Small}
+use Rattle.irumbolai.proofs.Verdicts.{scrub_small}
 
 pub record Unchanged (v : Verdict) (number : ℕ) : Type 0 where
-  pub first : get_or (seen_numbers (Stripe number v)) 3 0 ≡ get_or (verdict_numbers v) 1 0
-  pub count : get_or (seen_numbers (Stripe number v)) 4 0 ≡ get_or (verdict_numbers v) 2 0
-  pub fields : spread (unflagged (seen_numbers (Stripe number v))) ≡ spread (0 ∷ verdict_numbers v)
+  pub first : get_or (seen_numbers (Ok (Stripe number v))) 3 0 ≡ get_or (verdict_numbers v) 1 0
+  pub count : get_or (seen_numbers (Ok (Stripe number v))) 4 0 ≡ get_or (verdict_numbers v) 2 0
+  pub fields : spread (unflagged (seen_numbers (Ok (Stripe number v)))) ≡ spread (0 ∷ verdict_numbers v)
 
 pub unchanged : (v : Verdict) (number : ℕ) → Unchanged v number
 unchanged Clean number = record { first = refl; count = refl; fields = refl }

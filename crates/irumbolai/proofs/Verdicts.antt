@@ -6,7 +6,7 @@ use Prim.Native.Nat.{ℕ, zero, suc, ◌+◌, ◌≤◌, ◌<◌, zero-le, suc-l
 use native.Mathlib.Omega.{arith}
 use borrow.Author.Tests.{eqb-true}
 use lib.Dec.{eqb}
-use lib.ListN.{length, get_or, take, length-append}
+use lib.ListN.{length, take, length-append}
 use Rattle.xor.proofs.Combination.{length-combination}
 use Rattle.format.specs.Formats.{Format}
 use Rattle.layout.specs.Answers.{refuse, answer}
@@ -26,15 +26,7 @@ use Rattle.stripe.proofs.Scrubs.{scrub_sound}
 use Rattle.scan.specs.declared.Scan.{Scan}
 use Rattle.scan.specs.Scans.{fit, held_summary, registers_of, finish_refusal, finish_numbers}
 use Rattle.scan.proofs.Fitness.{finish-fit}
-
--- what a field of 32 bits does not hold any more
-abbrev pub field_end : ℕ
-field_end = 4294967296
-
--- of an answer's numbers, the fourth (a member or a place) and the fifth (a count)
-pub record Small (numbers : List ℕ) : Type 0 where
-  pub first : get_or numbers 3 0 < field_end
-  pub count : get_or numbers 4 0 < field_end
+use Rattle.irumbolai.specs.Answers.{field_end, Small}
 
 lowest-most : (flags : List Bool) → lowest flags ≤ length flags
 lowest-most [] = zero-le

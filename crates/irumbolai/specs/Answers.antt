@@ -1,8 +1,8 @@
 -- What C gets: the numbers of each call's answer in the fields of a struct. Assumes nothing.
-use Rattle.std.specs.Prelude.{ℕ, ◌-◌, ◌/◌, ◌%◌, Bool, not, cond, List, [], ◌∷◌, ◌++◌, eqb, get_or, drop}
+use Rattle.std.specs.Prelude.{ℕ, ◌-◌, ◌/◌, ◌%◌, ◌<◌, Bool, not, cond, List, [], ◌∷◌, ◌++◌, eqb, get_or, drop, Result, Ok, Err}
 use Rattle.layout.specs.Arrays.{array_of}
 use Rattle.layout.specs.declared.Placed.{Placed}
-use Rattle.layout.specs.declared.Placed.TheVariants.{Refused, At}
+use Rattle.refusal.specs.declared.Refusal.{Refusal}
 use Rattle.scan.specs.declared.Scan.{Scan}
 use Rattle.patrol.specs.declared.Patrol.{Patrol}
 use Rattle.irumbolai.specs.declared.SumAnswer.{SumAnswer}
@@ -47,6 +47,15 @@ spread l =
     let faults = get_or l 4 0 in
     get_or l 0 0 ∷ kind ∷ get_or l 2 0 ∷ get_or l 3 0 ∷ fits kind (faults / 4 % 2) ∷ fits kind (faults / 2 % 2) ∷ fits kind (faults % 2) ∷ []
 
+-- what a field of 32 bits does not hold any more; and an answer's numbers of which the fourth (a member or a place) and the fifth (a count) fit
+-- such fields
+abbrev pub field_end : ℕ
+field_end = 4294967296
+
+pub record Small (numbers : List ℕ) : Type 0 where
+  pub first : get_or numbers 3 0 < field_end
+  pub count : get_or numbers 4 0 < field_end
+
 -- the stripe in an answer of a patrol, 0 where none was looked at: behind the verdict's numbers and a flag
 abbrev pub stripe_answered : List ℕ → ℕ
 stripe_answered numbers = get_or numbers 7 0
@@ -56,9 +65,9 @@ abbrev pub is_idle : ℕ → Bool
 is_idle idle = not (eqb idle 0)
 
 -- the member in an answer of `place`, 0 where there is none
-abbrev pub member_answered : Placed → ℕ
-member_answered (Refused number) = 0
-member_answered (At stripe member) = member
+abbrev pub member_answered : Result Placed Refusal → ℕ
+member_answered (Err refusal) = 0
+member_answered (Ok placed) = placed.member
 
 -- the fields of each struct, in the order of the numbers
 abbrev pub sum_fields : SumAnswer → List ℕ

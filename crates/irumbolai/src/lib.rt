@@ -1,4 +1,5 @@
 // The C library: each call of include/irumbolai.h. A slice is a pointer and a length to C.
+// Stays: the C interface. The five numbers of an array travel one by one in each call and state of include/irumbolai.h.
 #![tactic(auto)]
 
 mod joins;
@@ -10,14 +11,16 @@ mod scrubs;
 mod stripes;
 mod sums;
 
-ghost use Rattle.std.specs.Prelude.{◌≡◌, [], ◌∷◌, ◌-◌, ◌/◌, ◌%◌, ◌<◌, get_or};
+ghost use Rattle.std.specs.Prelude.{◌≡◌, [], ◌∷◌, ◌-◌, ◌/◌, ◌%◌};
+ghost use Rattle.refusal.specs.Refusals.{number};
 ghost use Rattle.crc.specs.Blocks.{guards_of};
 ghost use Rattle.crc.specs.Guard.{guard};
 ghost use Rattle.verdict.specs.Verdicts.{verdict_numbers, scrubbed_numbers};
-ghost use Rattle.irumbolai.specs.Answers.{unflagged, verdict_fields, spread};
+ghost use Rattle.irumbolai.specs.Answers.{unflagged, verdict_fields, spread, Small};
 
 use format::MOST_TAGS;
-use verdict::{Scrubbed, Verdict};
+use refusal::Refusal;
+use verdict::Verdict;
 
 // The guards of many blocks.
 #[repr(C)]
@@ -182,11 +185,18 @@ pub extern "C" fn irumbolai_guards(bytes: &[u8], stride: usize) -> GuardsAnswer
     GuardsAnswer { guard }
 }
 
+// The number of a refusal.
+fn refusal_number(refusal: Refusal) -> u32
+    ensures { result ≡ number refusal }
+{
+    u32::from(u8::from(refusal))
+}
+
 // Whether a field fits, by its fault.
 fn fit(fault: u8) -> u32
     ensures { result ≡ 1 - fault }
 {
-    if fault == 0 { 1 } else { 0 }
+    u32::from(fault == 0)
 }
 
 // An answer that speaks of no bad member.
@@ -223,9 +233,9 @@ fn bad_answer(first: u32, count: u32, faults: u8) -> VerdictAnswer
 }
 
 // A verdict for C.
+// Stays: no `From`, which takes any member; the fields of `VerdictAnswer` hold thirty-two bits.
 fn found_answer(verdict: Verdict) -> VerdictAnswer
-    requires verdict_bound { get_or (verdict_numbers verdict) 1 0 < 4294967296 }
-    requires verdict_bound_2 { get_or (verdict_numbers verdict) 2 0 < 4294967296 }
+    requires { Small (1 ∷ 0 ∷ verdict_numbers verdict) }
     ensures { verdict_fields result ≡ spread (0 ∷ verdict_numbers verdict) }
 {
     match verdict {
@@ -252,16 +262,13 @@ fn found_answer(verdict: Verdict) -> VerdictAnswer
 }
 
 // An answer of `scrub` or `finish` for C.
-fn verdict_answer(scrubbed: Scrubbed) -> VerdictAnswer
-    requires scrubbed_bound { get_or (scrubbed_numbers scrubbed) 3 0 < 4294967296 }
-    requires scrubbed_bound_2 { get_or (scrubbed_numbers scrubbed) 4 0 < 4294967296 }
+// Stays: no `From`, as `found_answer`.
+fn verdict_answer(scrubbed: Result<Verdict, Refusal>) -> VerdictAnswer
+    requires { Small (scrubbed_numbers scrubbed) }
     ensures { verdict_fields result ≡ spread (unflagged (scrubbed_numbers scrubbed)) }
 {
     match scrubbed {
-        Scrubbed::Refused(number) => {
-            let refusal = number as u32;
-            no_fault(refusal, 0, 0, 0)
-        }
-        Scrubbed::Found(verdict) => found_answer(verdict),
+        Ok(verdict) => found_answer(verdict),
+        Err(refusal) => no_fault(refusal_number(refusal), 0, 0, 0),
     }
 }

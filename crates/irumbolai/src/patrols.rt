@@ -1,5 +1,6 @@
 // The patrol, for C.
-ghost use Rattle.std.specs.Prelude.{◌≡◌, ◌<◌, length, get_or};
+ghost use Rattle.std.specs.Prelude.{◌≡◌, length};
+ghost use Rattle.refusal.specs.Refusals.{told};
 ghost use Rattle.layout.specs.Arrays.{array_of, array_refusal};
 ghost use Rattle.patrol.specs.Patrols.{
   begin_state,
@@ -8,80 +9,87 @@ ghost use Rattle.patrol.specs.Patrols.{
   request_numbers,
   seen_numbers,
 };
-ghost use Rattle.irumbolai.specs.Answers.{patrol_of, unflagged, verdict_fields, spread, stripe_answered, is_idle};
+ghost use Rattle.irumbolai.specs.Answers.{patrol_of, unflagged, verdict_fields, spread, stripe_answered, is_idle, Small};
 
-use crate::{PatrolBegunAnswer, PatrolState, PatrolledAnswer, found_answer, no_fault};
-use patrol::{Patrol, Patrolled, Seen};
+use crate::{
+    PatrolBegunAnswer, PatrolState, PatrolledAnswer, found_answer, no_fault, refusal_number,
+};
+use patrol::{Begun, Patrol, Patrolled, Seen};
+use refusal::told;
 
 // The state that C hands in.
-fn patrol_of(state: PatrolState) -> Patrol
-    ensures { result ≡ patrol_of state }
-{
-    let array = layout::array_of(
-        state.members,
-        state.stripes,
-        state.volume,
-        state.method,
-        state.row,
-    );
-    Patrol {
-        array,
-        next: state.next,
+impl From<PatrolState> for Patrol {
+    ghost from_gives = { λ state patrol. patrol ≡ patrol_of state };
+
+    fn from(state: PatrolState) -> Patrol {
+        let array = layout::array_of(
+            state.members,
+            state.stripes,
+            state.volume,
+            state.method,
+            state.row,
+        );
+        Patrol {
+            array,
+            next: state.next,
+        }
     }
 }
 
 // A state for C.
-fn patrol_state(patrol: Patrol) -> PatrolState
-    ensures { patrol_of result ≡ patrol }
-{
-    let array = patrol.array;
-    PatrolState {
-        members: array.members,
-        stripes: array.stripes,
-        volume: array.volume,
-        method: array.method,
-        row: array.row,
-        next: patrol.next,
+impl From<Patrol> for PatrolState {
+    ghost from_gives = { λ patrol state. patrol_of state ≡ patrol };
+
+    fn from(patrol: Patrol) -> PatrolState {
+        let array = patrol.array;
+        PatrolState {
+            members: array.members,
+            stripes: array.stripes,
+            volume: array.volume,
+            method: array.method,
+            row: array.row,
+            next: patrol.next,
+        }
+    }
+}
+
+// How a patrol begins, for C.
+impl From<Begun> for PatrolBegunAnswer {
+    ghost from_gives = { λ begun answer. (answer.refusal ≡ told begun.answer) × (patrol_of answer.state ≡ begun.state) };
+
+    fn from(begun: Begun) -> PatrolBegunAnswer {
+        PatrolBegunAnswer {
+            refusal: u32::from(told(begun.answer)),
+            state: PatrolState::from(begun.state),
+        }
     }
 }
 
 // An answer of `turn` or `request` for C.
+// Stays: no `From`, as `found_answer`.
 fn patrolled_answer(patrolled: Patrolled) -> PatrolledAnswer
-    requires seen_bound { get_or (seen_numbers patrolled.seen) 3 0 < 4294967296 }
-    requires seen_bound_2 { get_or (seen_numbers patrolled.seen) 4 0 < 4294967296 }
+    requires { Small (seen_numbers patrolled.seen) }
     ensures verdict_value { verdict_fields result.verdict ≡ spread (unflagged (seen_numbers patrolled.seen)) }
     ensures stripe_value { result.stripe ≡ stripe_answered (seen_numbers patrolled.seen) }
     ensures state_value { patrol_of result.state ≡ patrolled.state }
 {
-    let left = patrolled.state;
-    let state = patrol_state(left);
-    let seen = patrolled.seen;
-    match seen {
-        Seen::Refused(number) => {
-            let refusal = number as u32;
-            let verdict = no_fault(refusal, 0, 0, 0);
-            PatrolledAnswer {
-                verdict,
-                stripe: 0,
-                state,
-            }
-        }
-        Seen::Nothing => {
-            let verdict = no_fault(0, 0, 0, 0);
-            PatrolledAnswer {
-                verdict,
-                stripe: 0,
-                state,
-            }
-        }
-        Seen::Stripe { number, verdict } => {
-            let verdict = found_answer(verdict);
-            PatrolledAnswer {
-                verdict,
-                stripe: number,
-                state,
-            }
-        }
+    let state = PatrolState::from(patrolled.state);
+    match patrolled.seen {
+        Ok(Seen::Nothing) => PatrolledAnswer {
+            verdict: no_fault(0, 0, 0, 0),
+            stripe: 0,
+            state,
+        },
+        Ok(Seen::Stripe { number, verdict }) => PatrolledAnswer {
+            verdict: found_answer(verdict),
+            stripe: number,
+            state,
+        },
+        Err(refusal) => PatrolledAnswer {
+            verdict: no_fault(refusal_number(refusal), 0, 0, 0),
+            stripe: 0,
+            state,
+        },
     }
 }
 
@@ -98,11 +106,7 @@ pub extern "C" fn irumbolai_patrol_begin(
     ensures state_value { patrol_of result.state ≡ begin_state (array_of members stripes volume method row) }
 {
     let array = layout::array_of(members, stripes, volume, method, row);
-    let begun = patrol::begin(array);
-    let refusal = begun.refusal as u32;
-    let first = begun.state;
-    let state = patrol_state(first);
-    PatrolBegunAnswer { refusal, state }
+    PatrolBegunAnswer::from(patrol::begin(array))
 }
 
 // A turn, idle or busy.
@@ -116,9 +120,8 @@ pub extern "C" fn irumbolai_patrol_turn(
     ensures stripe_value { result.stripe ≡ stripe_answered (turn_numbers (patrol_of state) (is_idle idle) bytes.now) }
     ensures state_value { patrol_of result.state ≡ turn_state (patrol_of state) (is_idle idle) (length bytes.now) }
 {
-    let patrol = patrol_of(state);
-    let patrolled = patrol::turn(patrol, idle != 0, bytes);
-    patrolled_answer(patrolled)
+    let patrol = Patrol::from(state);
+    patrolled_answer(patrol::turn(patrol, idle != 0, bytes))
 }
 
 // A stripe out of turn.
@@ -132,7 +135,6 @@ pub extern "C" fn irumbolai_patrol_request(
     ensures stripe_value { result.stripe ≡ stripe_answered (request_numbers (patrol_of state) stripe bytes.now) }
     ensures state_value { patrol_of result.state ≡ patrol_of state }
 {
-    let patrol = patrol_of(state);
-    let patrolled = patrol::request(patrol, stripe, bytes);
-    patrolled_answer(patrolled)
+    let patrol = Patrol::from(state);
+    patrolled_answer(patrol::request(patrol, stripe, bytes))
 }

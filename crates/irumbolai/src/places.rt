@@ -4,24 +4,18 @@ ghost use Rattle.layout.specs.Arrays.{array_of};
 ghost use Rattle.layout.specs.Places.{placed_numbers, place_numbers, owned_numbers, owner_numbers};
 ghost use Rattle.irumbolai.specs.Answers.{unflagged, member_answered, place_fields, owner_fields};
 
-use crate::{OwnerAnswer, PlaceAnswer};
+use crate::{OwnerAnswer, PlaceAnswer, refusal_number};
 use layout::{Owned, Placed};
+use refusal::Refusal;
 
 // An answer of `place` for C.
-fn place_answer(placed: Placed) -> PlaceAnswer
+// Stays: no `From`, which takes any member; the field of `PlaceAnswer` holds thirty-two bits.
+fn place_answer(placed: Result<Placed, Refusal>) -> PlaceAnswer
     requires { member_answered placed < 4294967296 }
     ensures { place_fields result ≡ unflagged (placed_numbers placed) }
 {
     match placed {
-        Placed::Refused(number) => {
-            let refusal = number as u32;
-            PlaceAnswer {
-                refusal,
-                member: 0,
-                stripe: 0,
-            }
-        }
-        Placed::At { stripe, member } => {
+        Ok(Placed { stripe, member }) => {
             let member = member as u32;
             PlaceAnswer {
                 refusal: 0,
@@ -29,6 +23,11 @@ fn place_answer(placed: Placed) -> PlaceAnswer
                 stripe,
             }
         }
+        Err(refusal) => PlaceAnswer {
+            refusal: refusal_number(refusal),
+            member: 0,
+            stripe: 0,
+        },
     }
 }
 
@@ -49,28 +48,27 @@ pub extern "C" fn irumbolai_place(
 }
 
 // An answer of `owner` for C.
-fn owner_answer(owned: Owned) -> OwnerAnswer
-    ensures { owner_fields result ≡ unflagged (owned_numbers owned) }
-{
-    match owned {
-        Owned::Refused(number) => {
-            let refusal = number as u32;
-            OwnerAnswer {
-                refusal,
+impl From<Result<Owned, Refusal>> for OwnerAnswer {
+    ghost from_gives = { λ owned answer. owner_fields answer ≡ unflagged (owned_numbers owned) };
+
+    fn from(owned: Result<Owned, Refusal>) -> OwnerAnswer {
+        match owned {
+            Ok(Owned::Parity { lowest }) => OwnerAnswer {
+                refusal: 0,
+                parity: 1,
+                block: lowest,
+            },
+            Ok(Owned::Data { block }) => OwnerAnswer {
+                refusal: 0,
+                parity: 0,
+                block,
+            },
+            Err(refusal) => OwnerAnswer {
+                refusal: refusal_number(refusal),
                 parity: 0,
                 block: 0,
-            }
+            },
         }
-        Owned::Parity { lowest } => OwnerAnswer {
-            refusal: 0,
-            parity: 1,
-            block: lowest,
-        },
-        Owned::Data { block } => OwnerAnswer {
-            refusal: 0,
-            parity: 0,
-            block,
-        },
     }
 }
 
@@ -88,5 +86,5 @@ pub extern "C" fn irumbolai_owner(
     ensures { owner_fields result ≡ unflagged (owner_numbers (array_of members stripes volume method row) stripe member) }
 {
     let array = layout::array_of(members, stripes, volume, method, row);
-    owner_answer(layout::owner(array, stripe, member))
+    OwnerAnswer::from(layout::owner(array, stripe, member))
 }

@@ -4,8 +4,9 @@ ghost use Rattle.layout.specs.Arrays.{array_of};
 ghost use Rattle.intent.specs.Calls.{recorded_refusal, recorded_bytes, recorded_log, recovery_numbers, recover_numbers, recover_bytes, recover_log};
 ghost use Rattle.irumbolai.specs.Answers.{unflagged, recovery_fields};
 
-use crate::RecoveryAnswer;
+use crate::{RecoveryAnswer, refusal_number};
 use intent::Recovery;
+use refusal::{Refusal, told};
 
 // Replaces a block's data with its stripe entered in the record meanwhile, as far as so many of four stores go.
 #[unsafe(no_mangle)]
@@ -26,34 +27,27 @@ pub extern "C" fn irumbolai_update_recorded(
     ensures log_after { log.new ≡ recorded_log (array_of members stripes volume method row) block content.now bytes.old log.old stores }
 {
     let array = layout::array_of(members, stripes, volume, method, row);
-    intent::update(array, block, content, bytes, log, stores) as u32
+    u32::from(told(intent::update(array, block, content, bytes, log, stores)))
 }
 
 // An answer of `recover` for C.
-fn recovery_answer(recovery: Recovery) -> RecoveryAnswer
+// Stays: no `From`, which takes any member; the field of `RecoveryAnswer` holds thirty-two bits.
+fn recovery_answer(recovery: Result<Recovery, Refusal>) -> RecoveryAnswer
     requires { get_or (recovery_numbers recovery) 3 0 < 4294967296 }
     ensures { recovery_fields result ≡ unflagged (recovery_numbers recovery) }
 {
     match recovery {
-        Recovery::Refused(number) => {
-            let refusal = number as u32;
-            RecoveryAnswer {
-                refusal,
-                kind: 0,
-                member: 0,
-            }
-        }
-        Recovery::NotEntered => RecoveryAnswer {
+        Ok(Recovery::NotEntered) => RecoveryAnswer {
             refusal: 0,
             kind: 0,
             member: 0,
         },
-        Recovery::Recovered => RecoveryAnswer {
+        Ok(Recovery::Recovered) => RecoveryAnswer {
             refusal: 0,
             kind: 1,
             member: 0,
         },
-        Recovery::Left(member) => {
+        Ok(Recovery::Left(member)) => {
             let member = member as u32;
             RecoveryAnswer {
                 refusal: 0,
@@ -61,6 +55,11 @@ fn recovery_answer(recovery: Recovery) -> RecoveryAnswer
                 member,
             }
         }
+        Err(refusal) => RecoveryAnswer {
+            refusal: refusal_number(refusal),
+            kind: 0,
+            member: 0,
+        },
     }
 }
 

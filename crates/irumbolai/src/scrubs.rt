@@ -2,12 +2,13 @@
 ghost use Rattle.std.specs.Prelude.{◌≡◌};
 ghost use Rattle.layout.specs.Arrays.{array_of};
 ghost use Rattle.verdict.specs.Verdicts.{compared_numbers, quick_numbers};
-ghost use Rattle.verdict.specs.QuickWide.{compared_wide_numbers, quick_wide_numbers};
+ghost use Rattle.verdict.specs.QuickWide.{quick_wide_numbers};
 ghost use Rattle.stripe.specs.Verdicts.{scrub_numbers};
 ghost use Rattle.irumbolai.specs.Answers.{unflagged, verdict_fields, spread, quick_fields};
 
-use crate::{QuickAnswer, VerdictAnswer, verdict_answer};
-use verdict::{Compared, ComparedWide};
+use crate::{QuickAnswer, VerdictAnswer, refusal_number, verdict_answer};
+use refusal::Refusal;
+use verdict::Compared;
 
 // The full scrub of a stripe.
 #[unsafe(no_mangle)]
@@ -26,32 +27,40 @@ pub extern "C" fn irumbolai_scrub(
     verdict_answer(stripe::scrub(array, stripe, bytes))
 }
 
-// An answer of `quick_scrub` for C.
-fn quick_answer(compared: Compared) -> QuickAnswer
-    ensures { quick_fields result ≡ unflagged (compared_numbers compared) }
-{
-    match compared {
-        Compared::Refused(number) => {
-            let refusal = number as u32;
-            QuickAnswer {
-                refusal,
+// An answer of a quick scrub for C.
+impl From<Result<Compared<u32>, Refusal>> for QuickAnswer {
+    ghost from_gives = { λ compared answer. quick_fields answer ≡ unflagged (compared_numbers compared) };
+
+    fn from(compared: Result<Compared<u32>, Refusal>) -> QuickAnswer {
+        match compared {
+            Ok(Compared::Fits) => QuickAnswer {
+                refusal: 0,
                 differs: 0,
                 combination: 0,
-            }
-        }
-        Compared::Fits => QuickAnswer {
-            refusal: 0,
-            differs: 0,
-            combination: 0,
-        },
-        Compared::Differs { combination } => {
-            let combination = combination as u32;
-            QuickAnswer {
+            },
+            Ok(Compared::Differs { combination }) => QuickAnswer {
                 refusal: 0,
                 differs: 1,
                 combination,
-            }
+            },
+            Err(refusal) => QuickAnswer {
+                refusal: refusal_number(refusal),
+                differs: 0,
+                combination: 0,
+            },
         }
+    }
+}
+
+// What guards of sixteen bits combine to, wider.
+fn widened(compared: Compared<u16>) -> Compared<u32>
+    ensures { result ≡ compared }
+{
+    match compared {
+        Compared::Fits => Compared::Fits,
+        Compared::Differs { combination } => Compared::Differs {
+            combination: u32::from(combination),
+        },
     }
 }
 
@@ -60,33 +69,7 @@ fn quick_answer(compared: Compared) -> QuickAnswer
 pub extern "C" fn irumbolai_quick_scrub(guards: &[u16]) -> QuickAnswer
     ensures { quick_fields result ≡ unflagged (quick_numbers guards.now) }
 {
-    quick_answer(verdict::quick_scrub(guards))
-}
-
-// An answer of `quick_scrub_wide` for C.
-fn wide_answer(compared: ComparedWide) -> QuickAnswer
-    ensures { quick_fields result ≡ unflagged (compared_wide_numbers compared) }
-{
-    match compared {
-        ComparedWide::Refused(number) => {
-            let refusal = number as u32;
-            QuickAnswer {
-                refusal,
-                differs: 0,
-                combination: 0,
-            }
-        }
-        ComparedWide::Fits => QuickAnswer {
-            refusal: 0,
-            differs: 0,
-            combination: 0,
-        },
-        ComparedWide::Differs { combination } => QuickAnswer {
-            refusal: 0,
-            differs: 1,
-            combination,
-        },
-    }
+    QuickAnswer::from(verdict::quick_scrub(guards).map(widened))
 }
 
 // The stored guards of a stripe compared, of thirty-two bits.
@@ -94,5 +77,5 @@ fn wide_answer(compared: ComparedWide) -> QuickAnswer
 pub extern "C" fn irumbolai_quick_scrub_wide(guards: &[u32]) -> QuickAnswer
     ensures { quick_fields result ≡ unflagged (quick_wide_numbers guards.now) }
 {
-    wide_answer(verdict::quick_scrub_wide(guards))
+    QuickAnswer::from(verdict::quick_scrub_wide(guards))
 }

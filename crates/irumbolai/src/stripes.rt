@@ -3,21 +3,29 @@ ghost use Rattle.std.specs.Prelude.{◌≡◌, cond, ◌∷◌, eqb, length, rep
 ghost use Rattle.layout.specs.Arrays.{array_of};
 ghost use Rattle.tag.specs.Tags.{faults, kind_of, beside, side_by_side, checked_numbers, check_numbers};
 ghost use Rattle.stripe.specs.Jobs.{seal_refusal, seal_bytes, reading_numbers, read_numbers, read_out, rebuild_refusal, rebuild_bytes, update_refusal, update_bytes};
+ghost use Rattle.refusal.specs.Refusals.{told};
 ghost use Rattle.irumbolai.specs.Answers.{unflagged, field_numbers, check_fields, read_fields};
 
-use crate::{CheckAnswer, FieldAnswer, ReadAnswer};
+use crate::{CheckAnswer, FieldAnswer, ReadAnswer, refusal_number};
+use refusal::{Refusal, told};
 use stripe::Reading;
 use tag::{Checked, Fields};
+
+// A field of which nothing is told.
+const NO_FIELD: FieldAnswer = FieldAnswer {
+    found: 0,
+    expected: 0,
+    fits: 0,
+};
 
 // A field for C.
 fn field_answer(found: u64, expected: u64) -> FieldAnswer
     ensures { field_numbers result ≡ beside found expected }
 {
-    let fits: u32 = if found == expected { 1 } else { 0 };
     FieldAnswer {
         found,
         expected,
-        fits,
+        fits: u32::from(found == expected),
     }
 }
 
@@ -28,21 +36,9 @@ fn no_fields(refusal: u32, kind: u32) -> CheckAnswer
     CheckAnswer {
         refusal,
         kind,
-        guard: FieldAnswer {
-            found: 0,
-            expected: 0,
-            fits: 0,
-        },
-        application: FieldAnswer {
-            found: 0,
-            expected: 0,
-            fits: 0,
-        },
-        reference: FieldAnswer {
-            found: 0,
-            expected: 0,
-            fits: 0,
-        },
+        guard: NO_FIELD,
+        application: NO_FIELD,
+        reference: NO_FIELD,
     }
 }
 
@@ -50,7 +46,7 @@ fn no_fields(refusal: u32, kind: u32) -> CheckAnswer
 fn told_kind(faults: u8) -> u32
     ensures { result ≡ cond (eqb faults 0) 0 1 }
 {
-    if faults == 0 { 0 } else { 1 }
+    u32::from(faults != 0)
 }
 
 // Fields that are told, for C.
@@ -71,16 +67,15 @@ fn told_answer(found: Fields, expected: Fields) -> CheckAnswer
 }
 
 // An answer of `check` for C.
-fn check_answer(checked: Checked) -> CheckAnswer
-    ensures { check_fields result ≡ unflagged (checked_numbers checked) }
-{
-    match checked {
-        Checked::Refused(number) => {
-            let refusal = number as u32;
-            no_fields(refusal, 0)
+impl From<Result<Checked, Refusal>> for CheckAnswer {
+    ghost from_gives = { λ checked answer. check_fields answer ≡ unflagged (checked_numbers checked) };
+
+    fn from(checked: Result<Checked, Refusal>) -> CheckAnswer {
+        match checked {
+            Ok(Checked::Unchecked) => no_fields(0, 2),
+            Ok(Checked::Told { found, expected }) => told_answer(found, expected),
+            Err(refusal) => no_fields(refusal_number(refusal), 0),
         }
-        Checked::Unchecked => no_fields(0, 2),
-        Checked::Told { found, expected } => told_answer(found, expected),
     }
 }
 
@@ -99,7 +94,7 @@ pub extern "C" fn irumbolai_check(
     ensures { check_fields result ≡ unflagged (check_numbers (array_of members stripes volume method row) stripe member block.now) }
 {
     let array = layout::array_of(members, stripes, volume, method, row);
-    check_answer(tag::check(array, stripe, member, block))
+    CheckAnswer::from(tag::check(array, stripe, member, block))
 }
 
 // Writes every byte of a stripe, from its data.
@@ -118,30 +113,32 @@ pub extern "C" fn irumbolai_seal(
     ensures bytes_after { bytes.new ≡ seal_bytes (array_of members stripes volume method row) stripe content.now bytes.old }
 {
     let array = layout::array_of(members, stripes, volume, method, row);
-    stripe::seal(array, stripe, content, bytes) as u32
+    u32::from(told(stripe::seal(array, stripe, content, bytes)))
 }
 
 // An answer of `read` for C.
-fn read_answer(reading: Reading) -> ReadAnswer
-    ensures { read_fields result ≡ unflagged (reading_numbers reading) }
-{
-    match reading {
-        Reading::Refused(number) => {
-            let refusal = number as u32;
-            ReadAnswer { refusal, kind: 0 }
+impl From<Result<Reading, Refusal>> for ReadAnswer {
+    ghost from_gives = { λ reading answer. read_fields answer ≡ unflagged (reading_numbers reading) };
+
+    fn from(reading: Result<Reading, Refusal>) -> ReadAnswer {
+        match reading {
+            Ok(Reading::Stored) => ReadAnswer {
+                refusal: 0,
+                kind: 0,
+            },
+            Ok(Reading::Rebuilt) => ReadAnswer {
+                refusal: 0,
+                kind: 1,
+            },
+            Ok(Reading::Unchecked) => ReadAnswer {
+                refusal: 0,
+                kind: 2,
+            },
+            Err(refusal) => ReadAnswer {
+                refusal: refusal_number(refusal),
+                kind: 0,
+            },
         }
-        Reading::Stored => ReadAnswer {
-            refusal: 0,
-            kind: 0,
-        },
-        Reading::Rebuilt => ReadAnswer {
-            refusal: 0,
-            kind: 1,
-        },
-        Reading::Unchecked => ReadAnswer {
-            refusal: 0,
-            kind: 2,
-        },
     }
 }
 
@@ -161,7 +158,7 @@ pub extern "C" fn irumbolai_read(
     ensures out_after { out.new ≡ read_out (array_of members stripes volume method row) block bytes.now out.old }
 {
     let array = layout::array_of(members, stripes, volume, method, row);
-    read_answer(stripe::read(array, block, bytes, out))
+    ReadAnswer::from(stripe::read(array, block, bytes, out))
 }
 
 // Makes a member's block from the others.
@@ -180,7 +177,7 @@ pub extern "C" fn irumbolai_rebuild(
     ensures bytes_after { bytes.new ≡ rebuild_bytes (array_of members stripes volume method row) stripe member bytes.old }
 {
     let array = layout::array_of(members, stripes, volume, method, row);
-    stripe::rebuild(array, stripe, member, bytes) as u32
+    u32::from(told(stripe::rebuild(array, stripe, member, bytes)))
 }
 
 // Replaces a block's data, and brings the parity along.
@@ -199,5 +196,5 @@ pub extern "C" fn irumbolai_update(
     ensures bytes_after { bytes.new ≡ update_bytes (array_of members stripes volume method row) block content.now bytes.old }
 {
     let array = layout::array_of(members, stripes, volume, method, row);
-    stripe::update(array, block, content, bytes) as u32
+    u32::from(told(stripe::update(array, block, content, bytes)))
 }

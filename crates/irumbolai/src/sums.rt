@@ -4,21 +4,23 @@ ghost use Rattle.castagnoli.specs.Castagnoli.{crc32c};
 ghost use Rattle.checksum.specs.Asked.{summed_numbers, sum_numbers};
 ghost use Rattle.irumbolai.specs.Answers.{unflagged, sum_fields};
 
-use crate::SumAnswer;
-use checksum::Summed;
+use crate::{SumAnswer, refusal_number};
+use refusal::Refusal;
 
 // An answer of `sum` for C.
-fn sum_answer(summed: Summed) -> SumAnswer
-    ensures { sum_fields result ≡ unflagged (summed_numbers summed) }
-{
-    match summed {
-        Summed::Refused(number) => {
-            let refusal = number as u32;
-            SumAnswer { refusal, guard: 0 }
-        }
-        Summed::Sum { guard } => {
-            let guard = guard as u32;
-            SumAnswer { refusal: 0, guard }
+impl From<Result<u16, Refusal>> for SumAnswer {
+    ghost from_gives = { λ summed answer. sum_fields answer ≡ unflagged (summed_numbers summed) };
+
+    fn from(summed: Result<u16, Refusal>) -> SumAnswer {
+        match summed {
+            Ok(guard) => SumAnswer {
+                refusal: 0,
+                guard: u32::from(guard),
+            },
+            Err(refusal) => SumAnswer {
+                refusal: refusal_number(refusal),
+                guard: 0,
+            },
         }
     }
 }
@@ -28,7 +30,7 @@ fn sum_answer(summed: Summed) -> SumAnswer
 pub extern "C" fn irumbolai_checksum(bytes: &[u8]) -> SumAnswer
     ensures { sum_fields result ≡ unflagged (sum_numbers bytes.now) }
 {
-    sum_answer(checksum::sum(bytes))
+    SumAnswer::from(checksum::sum(bytes))
 }
 
 // The CRC-32C of a run of bytes of any length.

@@ -83,10 +83,8 @@ fn times(a: u16, b: u16) -> u16
     ensures { result ≡ product 16 generator a b }
 {
     let mut after: u16 = 0;
-    let mut left: u16 = 16;
-    while 0 < left {
-        left -= 1;
-        after = crc::times_x(after) ^ a * ((b >> left) % 2);
+    for i in (0..16u16).rev() {
+        after = crc::times_x(after) ^ a * ((b >> i) % 2);
     }
     after
 }
@@ -97,13 +95,11 @@ fn scaled(register: u16, table: &[u16], n: u32) -> u16
 {
     let mut after = register;
     let mut left = n;
-    let mut i: usize = 0;
-    while i < table.len() {
+    for factor in table {
         if left % 2 == 1 {
-            after = times(after, table[i]);
+            after = times(after, *factor);
         }
         left /= 2;
-        i += 1;
     }
     after
 }

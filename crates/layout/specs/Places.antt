@@ -1,15 +1,16 @@
 -- Where a block lies. The parity moves up by one member from row to row of c stripes, and the data stand on the other members
 -- in order: the layout that Linux md calls right-asymmetric, with a chunk of c blocks. At c = 1 a row is a stripe.
 -- Assumes nothing.
-use Rattle.std.specs.Prelude.{◌≡◌, ℕ, ◌+◌, ◌-◌, ◌*◌, ◌/◌, ◌%◌, ◌^◌, ◌<◌, Bool, cond, List, [], ◌∷◌, ◌==◌, nat_lt}
+use Rattle.std.specs.Prelude.{◌≡◌, ℕ, ◌+◌, ◌-◌, ◌*◌, ◌/◌, ◌%◌, ◌^◌, ◌<◌, Bool, cond, List, [], ◌∷◌, ◌==◌, nat_lt, Result, Ok, Err}
 use Rattle.layout.specs.Answers.{or_past, answer}
 use Rattle.layout.specs.Arrays.{data_members, stripe_refusal, block_refusal}
 use Rattle.layout.specs.declared.Array.{Array}
 use Rattle.layout.specs.declared.Seat.{Seat}
 use Rattle.layout.specs.declared.Placed.{Placed}
-use Rattle.layout.specs.declared.Placed.TheVariants.{Refused, At}
 use Rattle.layout.specs.declared.Owned.{Owned}
-use Rattle.layout.specs.declared.Owned.TheVariants.{Parity, Data, Refused as OwnerRefused}
+use Rattle.layout.specs.declared.Owned.TheVariants.{Parity, Data}
+use Rattle.refusal.specs.Refusals.{number}
+use Rattle.refusal.specs.declared.Refusal.{Refusal}
 
 -- with g = stripe / c and k = stripe % c: the parity stays on a member for the c stripes of one g
 unfoldable pub parity_member : Array → ℕ → ℕ
@@ -55,19 +56,19 @@ member_of a block = member_at a (stripe_of a block) (index_of a block)
 
 -- ---- place, in numbers: the stripe and the member
 
-abbrev pub placed_numbers : Placed → List ℕ
-placed_numbers (Refused number) = 0 ∷ number ∷ 0 ∷ 0 ∷ []
-placed_numbers (At stripe member) = 1 ∷ 0 ∷ stripe ∷ member ∷ []
+abbrev pub placed_numbers : Result Placed Refusal → List ℕ
+placed_numbers (Err refusal) = 0 ∷ number refusal ∷ 0 ∷ 0 ∷ []
+placed_numbers (Ok placed) = 1 ∷ 0 ∷ placed.stripe ∷ placed.member ∷ []
 
 unfoldable pub place_numbers : Array → ℕ → List ℕ
 place_numbers a block = answer (block_refusal a block) (stripe_of a block ∷ member_of a block ∷ [])
 
 -- ---- owner, in numbers: 1 where the place is the parity's, and the block number there (the lowest of the stripe, for the parity)
 
-abbrev pub owned_numbers : Owned → List ℕ
-owned_numbers (OwnerRefused number) = 0 ∷ number ∷ 0 ∷ 0 ∷ []
-owned_numbers (Parity lowest) = 1 ∷ 0 ∷ 1 ∷ lowest ∷ []
-owned_numbers (Data block) = 1 ∷ 0 ∷ 0 ∷ block ∷ []
+abbrev pub owned_numbers : Result Owned Refusal → List ℕ
+owned_numbers (Err refusal) = 0 ∷ number refusal ∷ 0 ∷ 0 ∷ []
+owned_numbers (Ok (Parity lowest)) = 1 ∷ 0 ∷ 1 ∷ lowest ∷ []
+owned_numbers (Ok (Data block)) = 1 ∷ 0 ∷ 0 ∷ block ∷ []
 
 -- the same by the row length and what a stripe is found by, whatever these are: of an index the lowest byte counts, and of a block number
 -- sixty-four bits. With a stripe's own, on one of its members, it is the owner (`beside_owner`)

@@ -1,8 +1,9 @@
 // Where the blocks of an array lie: from a block number to its stripe and member, and back.
-// A call decides first: its refusal number, 0 where nothing is refused; only then does it compute.
+// A call decides first whether it refuses; only then does it compute.
 #![tactic(auto)]
 
 ghost use Rattle.std.specs.Prelude.{◌≡◌, ◌-◌, ◌/◌, ◌%◌, ◌<◌, ◌≤◌, not};
+ghost use Rattle.refusal.specs.Refusals.{told};
 ghost use Rattle.layout.specs.Answers.{refuse, or_past};
 ghost use Rattle.layout.specs.Arrays.{array_of, no_array, within, row_fit, array_refusal, data_members, stripe_refusal, block_refusal};
 ghost use Rattle.layout.specs.Places.{
@@ -21,10 +22,11 @@ ghost use Rattle.layout.specs.Places.{
   owner_refusal,
 };
 
+use refusal::{Refusal, demand};
 use std::num::wrapping_add_u64;
 
 // The array's numbers: members n, stripes S, the volume that stands in every application tag, the guard method, and the row length c.
-#[derive(Clone, Copy)]
+#[derive(Clone, Copy, Debug, PartialEq, Eq)]
 pub struct Array {
     pub members: usize,
     pub stripes: u64,
@@ -54,23 +56,22 @@ pub fn no_array() -> Array
 }
 
 // Where a block lies.
-#[derive(Clone, Copy)]
-pub enum Placed {
-    Refused(u8),
-    At { stripe: u64, member: usize },
+#[derive(Clone, Copy, Debug, PartialEq, Eq)]
+pub struct Placed {
+    pub stripe: u64,
+    pub member: usize,
 }
 
 // What a stripe is found by: the member of its parity, and its lowest block. To find it takes divisions, so it is found once a stripe.
-#[derive(Clone, Copy)]
+#[derive(Clone, Copy, Debug, PartialEq, Eq)]
 pub struct Seat {
     pub parity: usize,
     pub lowest: u64,
 }
 
 // What lies at a place: a block, or the parity of its stripe, which is named by the stripe's lowest block.
-#[derive(Clone, Copy)]
+#[derive(Clone, Copy, Debug, PartialEq, Eq)]
 pub enum Owned {
-    Refused(u8),
     Parity { lowest: u64 },
     Data { block: u64 },
 }
@@ -122,77 +123,49 @@ fn row_fits(array: Array) -> bool
     rest(LONGEST_ROW, row) == 0 && rest(array.stripes, row) == 0
 }
 
-// A test's number where it fails, else what the later tests give.
-fn unless(fits: bool, number: u8, later: u8) -> u8
-    ensures { result ≡ refuse (not fits) number later }
-{
-    if fits { later } else { number }
-}
-
-// The refusal number of the array's own numbers: 1, 2, 12, 13, or 0.
-pub fn array_refusal(array: Array) -> u8
-    ensures { result ≡ array_refusal array }
+// Whether the array's own numbers are in range, tested in the order of the refusals.
+pub fn check_array(array: Array) -> Result<(), Refusal>
+    ensures { told result ≡ array_refusal array }
 {
     let members = is_within(FEWEST_MEMBERS, MOST_MEMBERS, array.members as u64);
     let stripes = is_within(1, MOST_STRIPES, array.stripes);
     let method = is_within(1, MOST_METHODS, array.method as u64);
     let row = row_fits(array);
-    let later = unless(method, 12, unless(row, 13, 0));
-    unless(members, 1, unless(stripes, 2, later))
+    demand(members, Refusal::Members)?;
+    demand(stripes, Refusal::Stripes)?;
+    demand(method, Refusal::Method)?;
+    demand(row, Refusal::Row)
 }
 
-// The number of an earlier refusal where there is one, else `number` where x is at or past the end.
-fn or_past(earlier: u8, x: u64, end: u64, number: u8) -> u8
-    ensures { result ≡ or_past earlier x end number }
+// Whether a stripe that is handed in is the array's.
+pub fn check_stripe(array: Array, stripe: u64) -> Result<(), Refusal>
+    ensures { told result ≡ stripe_refusal array stripe }
 {
-    if earlier != 0 {
-        return earlier;
-    }
-    if x < end { 0 } else { number }
+    check_array(array)?;
+    demand(stripe < array.stripes, Refusal::Place)
 }
 
-// The refusal number where a stripe is handed in.
-pub fn stripe_refusal(array: Array, stripe: u64) -> u8
-    ensures { result ≡ stripe_refusal array stripe }
+// Whether a block number that is handed in is the array's.
+pub fn check_block(array: Array, block: u64) -> Result<(), Refusal>
+    ensures { told result ≡ block_refusal array block }
 {
-    or_past(array_refusal(array), stripe, array.stripes, 3)
+    check_array(array)?;
+    demand(block < array.stripes * data_members(array), Refusal::Place)
 }
 
-// One less; 0 stays 0.
-fn one_less(x: usize) -> usize
-    ensures { result ≡ x - 1 }
+// Whether a place that is handed in, a stripe and a member, is the array's.
+pub fn check_place(array: Array, stripe: u64, member: usize) -> Result<(), Refusal>
+    ensures { told result ≡ owner_refusal array stripe member }
 {
-    if x == 0 { 0 } else { x - 1 }
+    check_stripe(array, stripe)?;
+    demand(member < array.members, Refusal::Member)
 }
 
 // How many members of a stripe hold data: d.
 fn data_members(array: Array) -> u64
     ensures { result ≡ data_members array }
 {
-    one_less(array.members) as u64
-}
-
-// The refusal number where a block number is handed in.
-pub fn block_refusal(array: Array, block: u64) -> u8
-    ensures { result ≡ block_refusal array block }
-{
-    let refusal = array_refusal(array);
-    if refusal != 0 {
-        return refusal;
-    }
-    or_past(0, block, array.stripes * data_members(array), 3)
-}
-
-// The refusal number where a place is handed in: a stripe and a member.
-pub fn owner_refusal(array: Array, stripe: u64, member: usize) -> u8
-    ensures { result ≡ owner_refusal array stripe member }
-{
-    or_past(
-        stripe_refusal(array, stripe),
-        member as u64,
-        array.members as u64,
-        5,
-    )
+    array.members.saturating_sub(1) as u64
 }
 
 // The member that holds the parity of a stripe. With no members at all, the rest by 0 is the row itself.
@@ -221,7 +194,7 @@ pub fn index_beside(parity: usize, member: usize) -> usize
     if member < parity {
         member
     } else {
-        one_less(member)
+        member.saturating_sub(1)
     }
 }
 
@@ -249,17 +222,14 @@ fn index_of(array: Array, block: u64) -> usize
 }
 
 // The place of a block.
-pub fn place(array: Array, block: u64) -> Placed
+pub fn place(array: Array, block: u64) -> Result<Placed, Refusal>
     ensures { placed_numbers result ≡ place_numbers array block }
 {
-    let refusal = block_refusal(array, block);
-    if refusal != 0 {
-        return Placed::Refused(refusal);
-    }
+    check_block(array, block)?;
     let stripe = stripe_of(array, block);
     let index = index_of(array, block);
     let member = member_at(array, stripe, index);
-    Placed::At { stripe, member }
+    Ok(Placed { stripe, member })
 }
 
 // What a stripe is found by.
@@ -274,7 +244,7 @@ pub fn seat_of(array: Array, stripe: u64) -> Seat
 
 // What lies on a member of a stripe, by the row length and what the stripe is found by.
 pub fn owner_beside(row: u8, seat: Seat, member: usize) -> Owned
-    ensures { owned_numbers result ≡ beside_numbers row seat member }
+    ensures { owned_numbers (Ok result) ≡ beside_numbers row seat member }
 {
     let parity = seat.parity;
     let lowest = seat.lowest;
@@ -287,12 +257,9 @@ pub fn owner_beside(row: u8, seat: Seat, member: usize) -> Owned
 }
 
 // What lies at a place.
-pub fn owner(array: Array, stripe: u64, member: usize) -> Owned
+pub fn owner(array: Array, stripe: u64, member: usize) -> Result<Owned, Refusal>
     ensures { owned_numbers result ≡ owner_numbers array stripe member }
 {
-    let refusal = owner_refusal(array, stripe, member);
-    if refusal != 0 {
-        return Owned::Refused(refusal);
-    }
-    owner_beside(array.row, seat_of(array, stripe), member)
+    check_place(array, stripe, member)?;
+    Ok(owner_beside(array.row, seat_of(array, stripe), member))
 }

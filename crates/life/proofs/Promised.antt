@@ -4,6 +4,9 @@
 use mathlib.Core.Path.{◌≡◌, sym, ◌∙◌}
 use mathlib.Core.List.{List, ◌∷◌}
 use Prim.Native.Nat.{ℕ, ◌<◌}
+use Rattle.std.proofs.Common.{Result}
+use Rattle.refusal.specs.Refusals.{told}
+use Rattle.refusal.specs.declared.Refusal.{Refusal}
 use contract.Lifetimes.{Lfts}
 use borrow.Fn.Kinds.{Dens, ended_of}
 use denote.Triple.Clauses.{AtExit}
@@ -25,14 +28,14 @@ use Rattle.life.proofs.Theorem.{life_as_kept}
 
 -- A call is its arguments a, its result r, and e, what its borrows hold at the end; both a and e are in the order of the parameters.
 -- Of `update`: .0 the array, .1 .0 the block, .1 .1 .0 the new data, .1 .1 .1 .0 the stripe
-module _ (κs : Lfts 2) (a : Dens κs update-kinds.ps) (r : ℕ) (e : AtExit (ended_of 2 update-kinds.ps update-kinds.r) κs) where
+module _ (κs : Lfts 2) (a : Dens κs update-kinds.ps) (r : Result Unit Refusal) (e : AtExit (ended_of 2 update-kinds.ps update-kinds.r) κs) where
   pub update_lives : update-reads.Learnt κs a r e → {stripe : ℕ} {events : List Event} {answers : List Answer} {last : List ℕ}
       → LifeRun a.0 stripe e.1.1.1.0.now events answers last
-      → LifeRun a.0 stripe a.1.1.1.0.now (update a.1.0 a.1.1.0.now ∷ events) (numbered r ∷ answers) last
-  update_lives promised run = updated r promised.0 promised.1 run
+      → LifeRun a.0 stripe a.1.1.1.0.now (update a.1.0 a.1.1.0.now ∷ events) (numbered (told r) ∷ answers) last
+  update_lives promised run = updated (told r) promised.0 promised.1 run
 
 -- of `read`: .0 the array, .1 .0 the block, .1 .1 .0 the stripe, which stays as it is, .1 .1 .1 .0 the buffer
-module _ (κs : Lfts 2) (a : Dens κs read-kinds.ps) (r : Reading) (e : AtExit (ended_of 2 read-kinds.ps read-kinds.r) κs) where
+module _ (κs : Lfts 2) (a : Dens κs read-kinds.ps) (r : Result Reading Refusal) (e : AtExit (ended_of 2 read-kinds.ps read-kinds.r) κs) where
   pub read_lives : read-reads.Learnt κs a r e → {stripe : ℕ} {events : List Event} {answers : List Answer} {last : List ℕ}
       → LifeRun a.0 stripe a.1.1.0.now events answers last
       → LifeRun a.0 stripe a.1.1.0.now (read a.1.0 a.1.1.1.0.now ∷ events)
@@ -40,16 +43,16 @@ module _ (κs : Lfts 2) (a : Dens κs read-kinds.ps) (r : Reading) (e : AtExit (
   read_lives promised run = served r promised.0 promised.1 run
 
 -- of `rebuild`: .0 the array, .1 .0 the stripe's number, .1 .1 .0 the member, .1 .1 .1 .0 the stripe
-module _ (κs : Lfts 1) (a : Dens κs rebuild-kinds.ps) (r : ℕ) (e : AtExit (ended_of 1 rebuild-kinds.ps rebuild-kinds.r) κs) where
+module _ (κs : Lfts 1) (a : Dens κs rebuild-kinds.ps) (r : Result Unit Refusal) (e : AtExit (ended_of 1 rebuild-kinds.ps rebuild-kinds.r) κs) where
   pub rebuild_lives : rebuild-reads.Learnt κs a r e → {events : List Event} {answers : List Answer} {last : List ℕ}
       → LifeRun a.0 a.1.0 e.1.1.1.0.now events answers last
-      → LifeRun a.0 a.1.0 a.1.1.1.0.now (rebuild a.1.1.0 ∷ events) (numbered r ∷ answers) last
-  rebuild_lives promised run = rebuilt r promised.0 promised.1 run
+      → LifeRun a.0 a.1.0 a.1.1.1.0.now (rebuild a.1.1.0 ∷ events) (numbered (told r) ∷ answers) last
+  rebuild_lives promised run = rebuilt (told r) promised.0 promised.1 run
 
 -- of `seal`: .0 the array, .1 .0 the stripe's number, .1 .1 .0 the content, .1 .1 .1 .0 the stripe. It is accepted, and any life goes on from the
 -- bytes that it left
-pub whole-life : (κs : Lfts 2) (a : Dens κs seal-kinds.ps) (r : ℕ) (e : AtExit (ended_of 2 seal-kinds.ps seal-kinds.r) κs)
-    → seal-reads.Learnt κs a r e → r ≡ 0 → a.0.volume < 256
+pub whole-life : (κs : Lfts 2) (a : Dens κs seal-kinds.ps) (r : Result Unit Refusal) (e : AtExit (ended_of 2 seal-kinds.ps seal-kinds.r) κs)
+    → seal-reads.Learnt κs a r e → told r ≡ 0 → a.0.volume < 256
     → {events : List Event} {answers : List Answer} {last : List ℕ} → LifeRun a.0 a.1.0 e.1.1.1.0.now events answers last
     → OneAtATime a.0 a.1.0 whole events
     → WholeLife a.0 a.1.0 a.1.1.0.now events answers last

@@ -1,6 +1,7 @@
 -- A life as it runs: each event finds the bytes that the one before it left, and what a call answers and leaves is what its promise says.
 -- Assumes nothing.
-use Rattle.std.specs.Prelude.{◌≡◌, List, [], ◌∷◌, ℕ, length}
+use Rattle.std.specs.Prelude.{◌≡◌, List, [], ◌∷◌, ℕ, length, Result}
+use Rattle.refusal.specs.declared.Refusal.{Refusal}
 use Rattle.layout.specs.declared.Array.{Array}
 use Rattle.tag.specs.Blocks.{format_at}
 use Rattle.stripe.specs.Jobs.{with_block, update_refusal, update_bytes, read_numbers, read_out, reading_numbers, rebuild_refusal, rebuild_bytes}
@@ -15,7 +16,7 @@ pub data LifeRun (a : Array) (stripe : ℕ) : List ℕ → List Event → List A
       → next ≡ update_bytes a block new bytes
       → LifeRun a stripe next events answers last
       → LifeRun a stripe bytes (update block new ∷ events) (numbered number ∷ answers) last
-  served : {bytes last out left : List ℕ} {block : ℕ} {events : List Event} {answers : List Answer} (r : Reading)
+  served : {bytes last out left : List ℕ} {block : ℕ} {events : List Event} {answers : List Answer} (r : Result Reading Refusal)
       → reading_numbers r ≡ read_numbers a block bytes (length out)
       → left ≡ read_out a block bytes out
       → LifeRun a stripe bytes events answers last

@@ -1,10 +1,11 @@
-// The bytes at the head of an image: their length, a version, and the array's numbers.
-ghost use Rattle.std.specs.Prelude.{◌≡◌, ◌+◌, ◌≤◌, take, drop};
+// The bytes at the head of an image: their length, a version, and the array's numbers. A reader hands in as many of them as came.
+ghost use Rattle.std.specs.Prelude.{◌≡◌, ◌-◌, ◌≤◌, ◌&&◌, eqb, leb, length, get_or, take, drop};
+ghost use Rattle.refusal.specs.Refusals.{told};
 ghost use Rattle.tag.specs.Numbers.{number_of};
-ghost use Rattle.lines.specs.Headers.{form_of, header_size, later, array_in, header_refusal};
+ghost use Rattle.lines.specs.Headers.{form_of, header_form, known, header_size, later, array_in, header_refusal};
 
 use layout::Array;
-use tag::pair;
+use refusal::{Refusal, demand};
 
 // Room for the longest header.
 pub const HEADER: usize = 15;
@@ -20,87 +21,93 @@ pub struct Form {
 fn form_of(version: u8) -> Form
     ensures { result ≡ form_of version }
 {
-    if version == 1 {
-        return Form { wide: 4, more: 0 };
+    match version {
+        1 => Form { wide: 4, more: 0 },
+        2 => Form { wide: 4, more: 1 },
+        3 => Form { wide: 4, more: 2 },
+        4 => Form { wide: 8, more: 2 },
+        _ => Form { wide: 0, more: 0 },
     }
-    if version == 2 {
-        return Form { wide: 4, more: 1 };
-    }
-    if version == 3 {
-        return Form { wide: 4, more: 2 };
-    }
-    if version == 4 {
-        return Form { wide: 8, more: 2 };
-    }
-    Form { wide: 0, more: 0 }
 }
 
-// The number that some bytes of a header are.
-fn number_in(header: [u8; HEADER], at: usize, count: usize) -> u64
-    requires count_bound { at + count ≤ 15 }
-    requires count_bound_2 { count ≤ 8 }
-    ensures { result ≡ number_of (take count (drop at header)) }
+// The byte at a place; 0 where it has not come.
+fn byte(header: &[u8], at: usize) -> u8
+    ensures { result ≡ get_or header.now at 0 }
 {
-    let mut number: u64 = 0;
-    let mut i: usize = 0;
-    while i < count {
-        number = number * 256 + header[at + i] as u64;
-        i += 1;
-    }
-    number
+    header.get(at).copied().unwrap_or(0)
+}
+
+// The bytes from a place on, `count` of them or as many as came.
+fn part(header: &[u8], at: usize, count: usize) -> &[u8]
+    ensures { result.now ≡ take count (drop at header.now) }
+{
+    let rest = header.get(at..).unwrap_or(&[]);
+    rest.get(..count).unwrap_or(rest)
+}
+
+// The number in those bytes.
+fn number_at(header: &[u8], at: usize, count: usize) -> u64
+    requires { count ≤ 8 }
+    ensures { result ≡ number_of (take count (drop at header.now)) }
+{
+    tag::number_of(part(header, at, count))
+}
+
+// The form of the header that begins so.
+fn form_in(header: &[u8]) -> Form
+    ensures { result ≡ header_form header.now }
+{
+    form_of(byte(header, 2))
 }
 
 // One of the later numbers of a header; 1 where its version does not tell it.
-fn later(header: [u8; HEADER], k: usize) -> u8
-    ensures { result ≡ later header k }
+fn later(header: &[u8], k: usize) -> u8
+    ensures { result ≡ later header.now k }
 {
-    let form = form_of(header[2]);
-    let wide = form.wide;
-    let more = form.more;
-    if k < more { header[5 + wide + k] } else { 1 }
+    let form = form_in(header);
+    if k < form.more {
+        byte(header, 5 + form.wide + k)
+    } else {
+        1
+    }
 }
 
 // The array's numbers in a header.
-pub fn array_in(header: [u8; HEADER]) -> Array
-    ensures { result ≡ array_in header }
+pub fn array_in(header: &[u8]) -> Array
+    ensures { result ≡ array_in header.now }
 {
-    let form = form_of(header[2]);
-    let wide = form.wide;
-    let stripes = number_in(header, 5, wide);
+    let members = byte(header, 3);
+    let stripes = number_at(header, 5, form_in(header).wide);
+    let volume = byte(header, 4);
     let method = later(header, 0);
     let row = later(header, 1);
-    layout::array_of(header[3] as usize, stripes, header[4], method, row)
+    layout::array_of(usize::from(members), stripes, volume, method, row)
 }
 
-// How many bytes the header has of which `have` came; 3 where its version has not come, or is in no row.
-pub fn header_size(header: [u8; HEADER], have: usize) -> usize
-    ensures { result ≡ header_size (take have header) }
+// How many bytes the header has that begins so; 3 where its version has not come, or is in no row.
+pub fn header_size(header: &[u8]) -> usize
+    ensures { result ≡ header_size header.now }
 {
-    if have < 3 {
-        return 3;
+    let form = form_in(header);
+    if form.wide == 0 {
+        3
+    } else {
+        5 + form.wide + form.more
     }
-    let form = form_of(header[2]);
-    let wide = form.wide;
-    let more = form.more;
-    if wide == 0 {
-        return 3;
-    }
-    5 + wide + more
 }
 
-// The refusal number of a header of which `have` bytes came; past its size they are no part of it.
-pub fn header_refusal(header: [u8; HEADER], have: usize) -> u8
-    ensures { result ≡ header_refusal (take have header) }
+// Whether a header is whole: its version is in a row, all its bytes came, and the first two say how many follow them.
+fn is_whole(header: &[u8]) -> bool
+    ensures { result ≡ known (header_form header.now) && leb (header_size header.now) (length header.now) && eqb (number_of (take 2 header.now)) (header_size header.now - 2) }
 {
-    let size = header_size(header, have);
-    if size == 3 {
-        return 10;
-    }
-    if have < size {
-        return 10;
-    }
-    if pair(header[0], header[1]) as usize != size - 2 {
-        return 10;
-    }
-    layout::array_refusal(array_in(header))
+    let size = header_size(header);
+    form_in(header).wide != 0 && size <= header.len() && number_at(header, 0, 2) == size as u64 - 2
+}
+
+// Refuses a header, or as much of it as came.
+pub fn check_header(header: &[u8]) -> Result<(), Refusal>
+    ensures { told result ≡ header_refusal header.now }
+{
+    demand(is_whole(header), Refusal::Header)?;
+    layout::check_array(array_in(header))
 }

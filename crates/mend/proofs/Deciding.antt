@@ -1,7 +1,7 @@
 -- What is done with a stripe, verdict by verdict, as the code comes to it. Assumes nothing.
 use mathlib.Core.Path.{◌≡◌, refl, sym, ap, ◌∙◌, subst}
 use mathlib.Core.Bool.{Bool, true, false, cond}
-use mathlib.Core.Logic.{◌≢◌}
+use mathlib.Core.Logic.{◌⊎◌, inl, inr}
 use mathlib.Core.List.{List, []}
 use Prim.Native.Nat.{ℕ}
 use borrow.Author.Tests.{eq-eqb, ne_eqb}
@@ -11,8 +11,10 @@ use Rattle.layout.specs.declared.Array.{Array}
 use Rattle.verdict.specs.Verdicts.{verdict_numbers, scrubbed_numbers}
 use Rattle.verdict.specs.declared.Verdict.{Verdict}
 use Rattle.verdict.specs.declared.Verdict.TheVariants.{Clean, Bad, Torn, Unchecked}
-use Rattle.verdict.specs.declared.Scrubbed.{Scrubbed}
-use Rattle.verdict.specs.declared.Scrubbed.TheVariants.{Refused, Found}
+use Rattle.std.proofs.Common.{Ok, Err}
+use Rattle.refusal.specs.Refusals.{number}
+use Rattle.refusal.specs.declared.Refusal.{Refusal}
+use Rattle.refusal.proofs.Passing.{number-some}
 use Rattle.stripe.specs.Jobs.{rebuild_refusal, rebuild_bytes}
 use Rattle.stripe.specs.Verdicts.{scrub_numbers}
 use Rattle.lines.specs.Text.{Written}
@@ -35,13 +37,13 @@ line_same {before} {after} {line} {due} {place} e w = subst (λ (l : List ℕ). 
 
 module _ (a : Array) (stripe member : ℕ) (bytes : List ℕ) where
   -- a rebuild that is done leaves no line, one that is refused the line of a lost stripe
-  pub rebuilt_unlisted : {refusal : ℕ} → refusal ≡ rebuild_refusal a stripe member bytes → refusal ≡ 0 → [] ≡ lost_unless_rebuilt a stripe member bytes
+  pub rebuilt_unlisted : 0 ≡ rebuild_refusal a stripe member bytes → [] ≡ lost_unless_rebuilt a stripe member bytes
   unfolding lost_unless_rebuilt
-  rebuilt_unlisted told done = rw (eq-eqb (rebuild_refusal a stripe member bytes) 0 (sym told ∙ done))
+  rebuilt_unlisted done = rw (eq-eqb (rebuild_refusal a stripe member bytes) 0 (sym done))
 
-  pub refused_lost : {refusal : ℕ} → refusal ≡ rebuild_refusal a stripe member bytes → refusal ≢ 0 → lost_line stripe ≡ lost_unless_rebuilt a stripe member bytes
+  pub refused_lost : (refusal : Refusal) → number refusal ≡ rebuild_refusal a stripe member bytes → lost_line stripe ≡ lost_unless_rebuilt a stripe member bytes
   unfolding lost_unless_rebuilt
-  refused_lost told refused = rw (ne_eqb (rebuild_refusal a stripe member bytes) 0 (λ e. refused (told ∙ e)))
+  refused_lost refusal told = rw (ne_eqb (rebuild_refusal a stripe member bytes) 0 (λ e. number-some refusal (told ∙ e)))
 
 -- ---- by the verdict
 
@@ -81,20 +83,35 @@ module _ (a : Array) (stripe : ℕ) (bytes : List ℕ) {verdict : Verdict} where
   unfolding listed_by
   unchecked-listed e = rw e
 
+-- one of these two
+abbrev Left : Verdict → Type 0
+Left verdict = ((member : ℕ) × (count : ℕ) × (verdict ≡ Unchecked member count)) ⊎ ((place : ℕ) × (verdict ≡ Torn place))
+
+module _ (a : Array) (stripe : ℕ) (bytes : List ℕ) (verdict : Verdict) where
+  pub left_stays : Left verdict → bytes ≡ mended_by a stripe (verdict_numbers verdict) bytes
+  left_stays (inl (member, count, e)) = unchecked_stays a stripe bytes e
+  left_stays (inr (place, e)) = torn_stays a stripe bytes e
+
+  pub left-listed : Left verdict → stripe_line stripe (verdict_numbers verdict) ≡ listed_by a stripe (verdict_numbers verdict) bytes
+  left-listed (inl (member, count, e)) = unchecked-listed a stripe bytes e
+  left-listed (inr (place, e)) = torn-listed a stripe bytes e
+
 -- ---- by the scrub's answer
 
-module _ (a : Array) (stripe : ℕ) (bytes : List ℕ) {scrubbed : Scrubbed} (told : scrubbed_numbers scrubbed ≡ scrub_numbers a stripe bytes) where
-  pub found_mends : {verdict : Verdict} → scrubbed ≡ Found verdict → mended_by a stripe (verdict_numbers verdict) bytes ≡ mended a stripe bytes
-  found_mends e = ap (λ (l : List ℕ). mended_by a stripe (drop 2 l) bytes) (sym (ap scrubbed_numbers e) ∙ told)
+module _ (a : Array) (stripe : ℕ) (bytes : List ℕ) where
+  module _ (verdict : Verdict) (told : scrubbed_numbers (Ok verdict) ≡ scrub_numbers a stripe bytes) where
+    pub found_mends : mended_by a stripe (verdict_numbers verdict) bytes ≡ mended a stripe bytes
+    found_mends = ap (λ (l : List ℕ). mended_by a stripe (drop 2 l) bytes) told
 
-  pub found-lists : {verdict : Verdict} → scrubbed ≡ Found verdict → listed_by a stripe (verdict_numbers verdict) bytes ≡ listed a stripe bytes
-  found-lists e = ap (λ (l : List ℕ). listed_by a stripe (drop 2 l) bytes) (sym (ap scrubbed_numbers e) ∙ told)
+    pub found-lists : listed_by a stripe (verdict_numbers verdict) bytes ≡ listed a stripe bytes
+    found-lists = ap (λ (l : List ℕ). listed_by a stripe (drop 2 l) bytes) told
 
   -- a refused scrub is that of no stripe of the array, of which nothing is said
-  pub refused_stays : {number : ℕ} → scrubbed ≡ Refused number → bytes ≡ mended a stripe bytes
-  unfolding mended_by
-  refused_stays e = ap (λ (l : List ℕ). mended_by a stripe (drop 2 l) bytes) (sym (ap scrubbed_numbers e) ∙ told)
+  module _ (refusal : Refusal) (told : scrubbed_numbers (Err refusal) ≡ scrub_numbers a stripe bytes) where
+    pub refused_stays : bytes ≡ mended a stripe bytes
+    unfolding mended_by
+    refused_stays = ap (λ (l : List ℕ). mended_by a stripe (drop 2 l) bytes) told
 
-  pub refused_unlisted : {number : ℕ} → scrubbed ≡ Refused number → [] ≡ listed a stripe bytes
-  unfolding listed_by
-  refused_unlisted e = ap (λ (l : List ℕ). listed_by a stripe (drop 2 l) bytes) (sym (ap scrubbed_numbers e) ∙ told)
+    pub refused_unlisted : [] ≡ listed a stripe bytes
+    unfolding listed_by
+    refused_unlisted = ap (λ (l : List ℕ). listed_by a stripe (drop 2 l) bytes) told

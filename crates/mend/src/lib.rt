@@ -10,9 +10,10 @@ ghost use Rattle.lines.specs.Lines.{fitting};
 ghost use Rattle.mend.specs.Mending.{mended_by, lost_unless_rebuilt, listed_by, mended, listed};
 
 use layout::Array;
-use verdict::{Scrubbed, Verdict};
+use verdict::Verdict;
 
 // Rebuilds a bad member, or lists the stripe as lost where that is refused.
+// Stays: here and below two buffers are lent side by side, as `mend` is lent them; a struct of two `&mut` would be made for one call.
 fn rebuild_or_lose(
     array: Array,
     stripe: u64,
@@ -23,11 +24,10 @@ fn rebuild_or_lose(
     ensures bytes_after { bytes.new ≡ rebuild_bytes array stripe member bytes.old }
     ensures written { Written list.old 0 (fitting (length list.old) (lost_unless_rebuilt array stripe member bytes.old)) list.new result }
 {
-    let refusal = stripe::rebuild(array, stripe, member, bytes);
-    if refusal == 0 {
-        return 0;
+    match stripe::rebuild(array, stripe, member, bytes) {
+        Ok(()) => 0,
+        Err(_) => lines::lost_line(list, stripe),
     }
-    lines::lost_line(list, stripe)
 }
 
 // What a verdict asks for.
@@ -37,16 +37,10 @@ fn mend_by(array: Array, stripe: u64, verdict: Verdict, bytes: &mut [u8], list: 
 {
     match verdict {
         Verdict::Clean => 0,
-        Verdict::Bad {
-            member,
-            count: _,
-            faults: _,
-        } => rebuild_or_lose(array, stripe, member, bytes, list),
-        Verdict::Unchecked {
-            member: _,
-            count: _,
-        } => lines::stripe_line(list, stripe, verdict),
-        Verdict::Torn { place: _ } => lines::stripe_line(list, stripe, verdict),
+        Verdict::Bad { member, .. } => rebuild_or_lose(array, stripe, member, bytes, list),
+        Verdict::Unchecked { .. } | Verdict::Torn { .. } => {
+            lines::stripe_line(list, stripe, verdict)
+        }
     }
 }
 
@@ -56,9 +50,8 @@ pub fn mend(array: Array, stripe: u64, bytes: &mut [u8], list: &mut [u8]) -> usi
     ensures bytes_after { bytes.new ≡ mended array stripe bytes.old }
     ensures written { Written list.old 0 (fitting (length list.old) (listed array stripe bytes.old)) list.new result }
 {
-    let scrubbed = stripe::scrub(array, stripe, bytes);
-    match scrubbed {
-        Scrubbed::Refused(_) => 0,
-        Scrubbed::Found(verdict) => mend_by(array, stripe, verdict, bytes, list),
+    match stripe::scrub(array, stripe, bytes) {
+        Err(_) => 0,
+        Ok(verdict) => mend_by(array, stripe, verdict, bytes, list),
     }
 }

@@ -41,14 +41,13 @@ fn near(v: u64) -> u64
 }
 
 // What tables make of the lowest 40 bits of a word.
+#[tactic(auto, unfolding(crate::specs::Nibbles::looked))]
 fn look(tables: &[u16; 160], v: u64) -> u16
     ensures { result ≡ looked 10 tables.now v }
 {
-    let mut found: u16 = 0;
-    let mut i: usize = 0;
-    while i < 10 {
-        found = found ^ tables[16 * i + ((v >> (4 * i)) % 16) as usize];
-        i += 1;
+    let mut found = 0;
+    for i in 0..10 {
+        found ^= tables[16 * i + ((v >> (4 * i)) % 16) as usize];
     }
     found
 }

@@ -1,15 +1,37 @@
 -- What a call of a patrol answers and leaves, by its refusal number: refused, busy, or idle. Assumes nothing.
-use mathlib.Core.Path.{◌≡◌, refl}
-use mathlib.Core.Bool.{Bool, true, false, cond, ◌&&◌}
+use mathlib.Core.Path.{◌≡◌, refl, sym}
+use mathlib.Core.Bool.{Bool, true, false, cond, not, ◌&&◌}
 use mathlib.Core.List.{List}
 use mathlib.Core.Logic.{◌≢◌}
-use Prim.Native.Nat.{ℕ}
+use Prim.Native.Nat.{ℕ, suc}
+use native.Mathlib.Omega.{arith}
+use lib.Dec.{eqb}
+use Rattle.std.specs.Prelude.{Result, Ok, Err}
+use Rattle.std.specs.Result.{is_ok}
+use Rattle.refusal.specs.Refusals.{number, told}
+use Rattle.refusal.specs.declared.Refusal.{Refusal}
+use Rattle.refusal.proofs.Passing.{number-some}
+use Rattle.layout.specs.Answers.{refuse}
 use borrow.Author.Tests.{ne_eqb}
 use lib.ListN.{length}
 use Rattle.layout.specs.Arrays.{no_array, array_refusal}
 use Rattle.layout.specs.declared.Array.{Array}
 use Rattle.patrol.specs.declared.Patrol.{Patrol}
 use Rattle.patrol.specs.Patrols.{patrol_at, begin_state, turn_refusal, turn_numbers, turn_state, request_refusal, request_numbers, scrub_of, nothing, refused_by, following}
+
+-- ---- an answer is done exactly where it tells 0; and what is known of a test that was demanded
+
+pub ok-told : {T : Type 0} (r : Result T Refusal) → is_ok r ≡ eqb (told r) 0
+ok-told (Ok x) = refl
+ok-told (Err refusal) = sym (ne_eqb (number refusal) 0 (number-some refusal))
+
+pub passed : (t : Bool) (k : ℕ) → 0 ≡ cond t 0 (suc k) → t ≡ true
+passed true k e = refl
+passed false k e = absurd (omega arith)
+
+pub failed : (refusal : Refusal) (t : Bool) (k later : ℕ) → number refusal ≡ cond t 0 (suc k) → number refusal ≡ refuse (not t) (suc k) later
+failed refusal true k later e = absurd (number-some refusal e)
+failed refusal false k later e = e
 
 -- ---- begin
 

@@ -3,6 +3,7 @@ use mathlib.Core.Path.{◌≡◌, refl}
 use mathlib.Core.Bool.{true, false}
 use mathlib.Core.List.{[], ◌∷◌}
 use Prim.Native.Nat.{ℕ}
+use Rattle.std.specs.Prelude.{Ok}
 use Rattle.format.specs.Methods.{format_of}
 use Rattle.layout.specs.Arrays.{array_of, array_refusal, stripe_refusal}
 use Rattle.layout.specs.declared.Array.{Array}
@@ -73,8 +74,8 @@ request-tells = (refl, refl)
 
 -- ---- an answer that names a stripe: done, no refusal, the verdict, 1, the stripe
 
-pub seen-names : (seen_numbers (Stripe 5 Clean) ≡ 1 ∷ 0 ∷ 0 ∷ 0 ∷ 0 ∷ 0 ∷ 1 ∷ 5 ∷ []) × (seen_numbers (Stripe 0 (Bad 2 1 4)) ≡ 1 ∷ 0 ∷ 1 ∷ 2 ∷ 1 ∷ 4 ∷ 1 ∷ 0 ∷ [])
-    × (stripe_named (record { lent = []; told = seen_numbers (Stripe 5 (Bad 2 1 4)) }) ≡ 5)
+pub seen-names : (seen_numbers (Ok (Stripe 5 Clean)) ≡ 1 ∷ 0 ∷ 0 ∷ 0 ∷ 0 ∷ 0 ∷ 1 ∷ 5 ∷ []) × (seen_numbers (Ok (Stripe 0 (Bad 2 1 4))) ≡ 1 ∷ 0 ∷ 1 ∷ 2 ∷ 1 ∷ 4 ∷ 1 ∷ 0 ∷ [])
+    × (stripe_named (record { lent = []; told = seen_numbers (Ok (Stripe 5 (Bad 2 1 4))) }) ≡ 5)
 seen-names = (refl, refl, refl)
 
 -- ---- which calls the theorem speaks of: of a busy turn, an idle one, a request, an idle one that is refused and an idle one, the second and the last

@@ -7,6 +7,7 @@ use Prim.Native.Nat.{ℕ}
 use contract.Lifetimes.{Lfts}
 use borrow.Fn.Kinds.{Dens, ended_of}
 use denote.Triple.Clauses.{AtExit}
+use Rattle.refusal.specs.Refusals.{told}
 use Rattle.layout.proofs.Ranges.{array_sound}
 use Rattle.patrol.specs.declared.Patrol.{Patrol}
 use Rattle.patrol.specs.declared.Begun.{Begun}
@@ -41,7 +42,7 @@ module _ (κs : Lfts 1) (a : Dens κs request-kinds.ps) (r : Patrolled) (e : AtE
 
 -- of `begin`: .0 the array. It is accepted
 module _ (κs : Lfts 0) (a : Dens κs begin-kinds.ps) (r : Begun) (e : AtExit (ended_of 0 begin-kinds.ps begin-kinds.r) κs)
-    (promised : begin-reads.Learnt κs a r e) (accepted : r.refusal ≡ 0) where
+    (promised : begin-reads.Learnt κs a r e) (accepted : told r.answer ≡ 0) where
   begins : r.state ≡ patrol_at a.0 0
   begins = promised.1 ∙ begun a.0 (sym promised.0 ∙ accepted)
 

@@ -1,15 +1,16 @@
 -- The calls of a patrol: for each its refusal number, its answer in numbers, and the state that it leaves, on any state. Assumes nothing.
-use Rattle.std.specs.Prelude.{ℕ, ◌+◌, ◌%◌, Bool, true, not, cond, ◌&&◌, List, [], ◌∷◌, ◌++◌, eqb, ltb, length}
+use Rattle.std.specs.Prelude.{ℕ, ◌+◌, ◌%◌, Bool, true, not, cond, ◌&&◌, List, [], ◌∷◌, ◌++◌, eqb, ltb, length, Result, Ok, Err}
 use Rattle.layout.specs.Answers.{refuse}
 use Rattle.layout.specs.Arrays.{no_array, array_refusal, stripe_refusal}
 use Rattle.layout.specs.declared.Array.{Array}
-use Rattle.verdict.specs.declared.Scrubbed.TheVariants.{Found}
+use Rattle.refusal.specs.Refusals.{number}
+use Rattle.refusal.specs.declared.Refusal.{Refusal}
 use Rattle.verdict.specs.Verdicts.{scrubbed_numbers}
 use Rattle.stripe.specs.Stripes.{stripe_length}
 use Rattle.stripe.specs.Verdicts.{scrub_numbers}
 use Rattle.patrol.specs.declared.Patrol.{Patrol}
 use Rattle.patrol.specs.declared.Seen.{Seen}
-use Rattle.patrol.specs.declared.Seen.TheVariants.{Refused, Nothing, Stripe}
+use Rattle.patrol.specs.declared.Seen.TheVariants.{Nothing, Stripe}
 
 -- a patrol of an array that comes to this stripe next
 abbrev pub patrol_at : Array → ℕ → Patrol
@@ -42,10 +43,10 @@ refused_by number = 0 ∷ number ∷ 0 ∷ 0 ∷ 0 ∷ 0 ∷ 0 ∷ 0 ∷ []
 abbrev pub nothing : List ℕ
 nothing = 1 ∷ 0 ∷ 0 ∷ 0 ∷ 0 ∷ 0 ∷ 0 ∷ 0 ∷ []
 
-abbrev pub seen_numbers : Seen → List ℕ
-seen_numbers (Refused number) = refused_by number
-seen_numbers Nothing = nothing
-seen_numbers (Stripe number v) = scrubbed_numbers (Found v) ++ (1 ∷ number ∷ [])
+abbrev pub seen_numbers : Result Seen Refusal → List ℕ
+seen_numbers (Err refusal) = refused_by (number refusal)
+seen_numbers (Ok Nothing) = nothing
+seen_numbers (Ok (Stripe stripe v)) = scrubbed_numbers (Ok v) ++ (1 ∷ stripe ∷ [])
 
 -- the full scrub of bytes as a stripe, with its number
 unfoldable pub scrub_of : Array → ℕ → List ℕ → List ℕ

@@ -1,13 +1,11 @@
 -- What a step does, for each return of the code. Assumes nothing.
 use mathlib.Core.Path.{◌≡◌, refl, sym, ap, ◌∙◌}
-use mathlib.Core.Bool.{Bool, true, false, cond}
 use mathlib.Core.Logic.{◌≢◌}
 use mathlib.Core.List.{List, [], ◌++◌}
 use Prim.Native.Nat.{ℕ, ◌+◌, ◌-◌, ◌≤◌, ◌<◌, min}
-use native.Mathlib.Nat.{zero-add, sub-zero}
+use native.Mathlib.Nat.{zero-add}
 use native.Mathlib.Omega.{arith}
 use borrow.Author.Tests.{lt-ltb, le-ltb, eq-eqb, ne_eqb}
-use lib.Dec.{ltb}
 use lib.ListN.{length, take, drop, length-take}
 use lib.Seq.{sets, sets-eq, take_at, length-take-le}
 use Rattle.layout.specs.declared.Array.{Array}
@@ -20,8 +18,8 @@ use Rattle.mend.proofs.Rebuilding.{length-mended}
 use Rattle.repair.specs.declared.Repair.{Repair}
 use Rattle.repair.specs.declared.Fed.{Fed}
 use Rattle.repair.specs.Repairs.{repair_refusal}
-use Rattle.repair.proofs.Held.{take_min}
-use Rattle.repair.specs.Feeding.{Step, Does, holding, entering, over, size_now, header_whole, next_stripe, stripe_whole, whole, came, took, idle, passed, step_of, closing}
+use Rattle.std.proofs.lemmas.List.{take_min}
+use Rattle.repair.specs.Feeding.{Step, Does, holding, entering, size_now, over_with, header_whole, next_stripe, stripe_whole, whole, came, took, idle, passed, step_of, closing}
 
 -- a call that does a step does any that equals it
 pub does_same : {s t : Step} {a : Fed} {h i j l m : List ℕ} → s ≡ t → Does t a h i j l m → Does s a h i j l m
@@ -40,40 +38,27 @@ with_line used s t h i l m text n e written =
 
 -- ---- the header is whole
 
-module _ (used : ℕ) (r : Repair) (h i l : List ℕ) {refusal : ℕ} (told : refusal ≡ repair_refusal (take r.have h)) where
-  pub header_refused : {s : Repair} {n : ℕ} {m : List ℕ} → refusal ≢ 0 → Written l 0 (refused_line refusal) m n → s ≡ over r
-      → Does (header_whole used r h) (record { state = s; used = used; written = 0; listed = n }) h i i l m
+module _ (used : ℕ) (r : Repair) (h : List ℕ) {refusal : ℕ} (told : refusal ≡ repair_refusal (take r.have h)) where
+  pub header_refused : refusal ≢ 0 → header_whole used r h ≡ over_with used r h refusal
   unfolding header_whole
-  header_refused {s} {n} {m} refused written e =
-      rw (ne_eqb (repair_refusal (take r.have h)) 0 (λ z. refused (told ∙ z)))
-      (with_line used s (over r) h i l m (refused_line (repair_refusal (take r.have h))) n e (rw (sym told) written))
+  header_refused some = rw (ne_eqb (repair_refusal (take r.have h)) 0 (λ z. some (told ∙ z))) (ap (over_with used r h) (sym told))
 
-  pub header-accepted : {s : Repair} {a : Array} {j : List ℕ} → refusal ≡ 0 → r.have ≤ length h → a ≡ array_in (take r.have h)
-      → j ≡ sets i 0 (take (r.have - 0) h) → s ≡ entering 1 a 0
+  pub header-accepted : {s : Repair} {a : Array} {header i j l : List ℕ} → refusal ≡ 0 → r.have ≤ length h → header ≡ take r.have h → a ≡ array_in header
+      → j ≡ sets i 0 header → s ≡ entering 1 a 0
       → Does (header_whole used r h) (record { state = s; used = used; written = r.have; listed = 0 }) h i j l l
   unfolding header_whole
-  header-accepted {s} {a} {j} done there is shown e =
+  header-accepted done there held is shown e =
       rw (eq-eqb (repair_refusal (take r.have h)) 0 (sym told ∙ done)) record {
         uses = refl;
-        leaves = e ∙ ap (λ (b : Array). entering 1 b 0) is;
+        leaves = e ∙ ap (λ (b : Array). entering 1 b 0) (is ∙ ap array_in held);
         holds = refl;
         writes = sym (length-take-le r.have h there);
         lists = refl;
-        shows = rw sub-zero at shown;
+        shows = rw held at shown;
         tells = refl;
       }
 
 -- ---- the stripe is whole
-
-next_is : (r : Repair) (t : Bool) → ltb (r.stripe + 1) r.array.stripes ≡ t → next_stripe r ≡ entering (cond t 1 2) r.array (r.stripe + 1)
-next_is r t e = ap (λ (u : Bool). entering (cond u 1 2) r.array (r.stripe + 1)) e
-
-module _ (r : Repair) {s : Repair} where
-  pub another_follows : r.stripe + 1 < r.array.stripes → s ≡ entering 1 r.array (r.stripe + 1) → s ≡ next_stripe r
-  another_follows h e = e ∙ sym (next_is r true (lt-ltb (r.stripe + 1) r.array.stripes h))
-
-  pub none-follows : r.array.stripes ≤ r.stripe + 1 → s ≡ entering 2 r.array (r.stripe + 1) → s ≡ next_stripe r
-  none-follows h e = e ∙ sym (next_is r false (le-ltb (r.stripe + 1) r.array.stripes h))
 
 -- the first bytes of a buffer replaced by as many
 module _ (h new : List ℕ) (n : ℕ) (there : n ≤ length h) (long : length new ≡ n) where
@@ -84,27 +69,24 @@ module _ (h new : List ℕ) (n : ℕ) (there : n ≤ length h) (long : length ne
   front_is = take_at new (drop n h) n long
 
 module _ (used : ℕ) (r : Repair) (h i l : List ℕ) (there : r.have ≤ length h) where
-  pub stripe-mended : {s : Repair} {n : ℕ} {new h' j m : List ℕ} → new ≡ mended r.array r.stripe (take (r.have - 0) h)
-      → Written l 0 (listed r.array r.stripe (take (r.have - 0) h)) m n → h' ≡ new ++ drop (r.have - 0) h → j ≡ sets i 0 (take (r.have - 0) h')
+  pub stripe-mended : {s : Repair} {n : ℕ} {new h' j m : List ℕ} → new ≡ mended r.array r.stripe (take r.have h)
+      → Written l 0 (listed r.array r.stripe (take r.have h)) m n → h' ≡ new ++ drop r.have h → j ≡ sets i 0 (take r.have h')
       → s ≡ next_stripe r
       → Does (stripe_whole used r h) (record { state = s; used = used; written = r.have; listed = n }) h' i j l m
   unfolding stripe_whole
   stripe-mended {s} {n} {new} {h'} {j} {m} made written put shown e =
       let bytes = take r.have h in
-      let is : new ≡ mended r.array r.stripe bytes = rw sub-zero at made in
-      let long : length new ≡ r.have = ap length is ∙ length-mended r.array r.stripe (verdict_on r.array r.stripe bytes) bytes ∙ length-take-le r.have h there in
-      let held : h' ≡ sets h 0 new = (rw sub-zero at put) ∙ front-replaced h new r.have there long in
-      let front : take r.have h' ≡ new = ap (take r.have) (rw sub-zero at put) ∙ front_is h new r.have there long in
-      let out : j ≡ sets i 0 (take r.have h') = rw sub-zero at shown in
-      let line : Written l 0 (listed r.array r.stripe bytes) m n = rw sub-zero at written in
+      let long : length new ≡ r.have = ap length made ∙ length-mended r.array r.stripe (verdict_on r.array r.stripe bytes) bytes ∙ length-take-le r.have h there in
+      let held : h' ≡ sets h 0 new = put ∙ front-replaced h new r.have there long in
+      let front : take r.have h' ≡ new = ap (take r.have) put ∙ front_is h new r.have there long in
       record {
         uses = refl;
         leaves = e;
-        holds = held ∙ ap (sets h 0) is;
-        writes = sym long ∙ ap length is;
-        lists = line-long line;
-        shows = out ∙ ap (sets i 0) (front ∙ is);
-        tells = line.stands;
+        holds = held ∙ ap (sets h 0) made;
+        writes = sym long ∙ ap length made;
+        lists = line-long written;
+        shows = shown ∙ ap (sets i 0) (front ∙ made);
+        tells = written.stands;
       }
 
 -- ---- whole, or not yet
@@ -139,19 +121,18 @@ module _ (r : Repair) (bytes h : List ℕ) {a : Fed} {s : Repair} {g h' i j l m 
 -- ---- the part of the input that is lacking
 
 module _ {k n count : ℕ} (input : List ℕ) (lacks : k ≡ n) (told : count ≡ min k (length input)) where
-  pub part_lacking : take (count - 0) input ≡ take n input
-  part_lacking = rw (sub-zero, told, lacks) (take_min n input)
+  pub part_lacking : take count input ≡ take n input
+  part_lacking = rw (told, lacks) (take_min n input)
 
-  pub part-short : length (take (count - 0) input) ≤ n
+  pub part-short : length (take count input) ≤ n
   part-short = rw part_lacking (simp length-take (omega arith))
 
 -- ---- nothing more is held
 
 module _ (used : ℕ) (r : Repair) (h i l : List ℕ) where
-  pub one_too_many : {s : Repair} {n : ℕ} {m : List ℕ} → r.stage ≡ 2 → s ≡ over r → Written l 0 (refused_line 11) m n
-      → Does (passed used r h) (record { state = s; used = used; written = 0; listed = n }) h i i l m
+  pub one_too_many : r.stage ≡ 2 → passed used r h ≡ over_with used r h 11
   unfolding passed
-  one_too_many {s} {n} {m} e f written = rw (eq-eqb r.stage 2 e) (with_line used s (over r) h i l m (refused_line 11) n f written)
+  one_too_many e = rw (eq-eqb r.stage 2 e)
 
   pub passed_over : {a : Fed} → r.stage ≢ 2 → a ≡ record { state = r; used = used; written = 0; listed = 0 } → Does (passed used r h) a h i i l l
   unfolding passed

@@ -8,7 +8,8 @@ use native.Mathlib.Nat.{zero-add, sub-zero, add_assoc}
 use native.Mathlib.Omega.{arith}
 use borrow.Author.Tests.{eq-eqb, ne_eqb}
 use lib.ListN.{length, take, drop, length-append, length-drop, drop_of_length-le}
-use lib.Seq.{sets, sets-eq, length-sets, drop-drop, take_all}
+use lib.Seq.{sets, sets-eq, length-sets, drop-drop}
+use Rattle.std.proofs.lemmas.List.{take_rest}
 use Rattle.copy.proofs.Puts.{sets-append}
 use Rattle.repair.specs.declared.Repair.{Repair}
 use Rattle.repair.specs.declared.Fed.{Fed}
@@ -105,14 +106,11 @@ module _ {all : Step} {input before listBefore : List ℕ} {r : Repair} {h out l
     (f : Filled all input before listBefore r h out list at written listed) {a : Fed} {h' part told : List ℕ}
     (given : Does (step_of r (take (length input - at) (drop at input)) h (length (take (length out - written) (drop written out))) (length (take (length list - listed) (drop listed list)))) a h'
     (take (length out - written) (drop written out)) part (take (length list - listed) (drop listed list)) told) where
-  rest_of : (l : List ℕ) (n : ℕ) → take (length l - n) (drop n l) ≡ drop n l
-  rest_of l n = take_all (length l - n) (drop n l) (rw length-drop (omega arith))
-
   does : Does (step_of r (drop at input) h (length before - written) (length listBefore - listed)) a h' (drop written out) part (drop listed list) told
   does =
       let room : length (drop written out) ≡ length before - written = length-drop written out ∙ ap (λ (n : ℕ). n - written) f.image.size in
       let lineroom : length (drop listed list) ≡ length listBefore - listed = length-drop listed list ∙ ap (λ (n : ℕ). n - listed) f.told.size in
-      rw (rest_of input at, rest_of out written, rest_of list listed, room, lineroom) at given
+      rw (take_rest input at, take_rest out written, take_rest list listed, room, lineroom) at given
 
   abbrev first : Step
   first = step_of r (drop at input) h (length before - written) (length listBefore - listed)

@@ -24,9 +24,6 @@ use Rattle.repair.proofs.Refusals.{report_accepts}
 
 -- ---- the stripes
 
-times-most : (size k n : ℕ) → k ≤ n → size * k ≤ size * n
-times-most size k n h = mul-le-mul_left size h
-
 module _ (a : Array) where
   abbrev size : ℕ
   size = stripe_length a
@@ -178,7 +175,7 @@ module _ (image : List ℕ) (done : repair_refusal (header_of image) ≡ 0) (who
       ∙ sym (repair_is image done)
 
   within : (i : ℕ) → i < (array_of image).stripes → stripe_length (array_of image) * suc i ≤ length (stripes_of image)
-  within i here = rw whole (times-most (stripe_length (array_of image)) (suc i) (array_of image).stripes here)
+  within i here = rw whole (mul-le-mul_left (stripe_length (array_of image)) here)
 
   pub second_pass : SecondPass image (repair_of image)
   second_pass = record {

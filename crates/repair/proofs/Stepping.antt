@@ -3,12 +3,13 @@
 use mathlib.Core.Path.{◌≡◌, refl, sym, ap, ◌∙◌}
 use mathlib.Core.Logic.{◌≢◌}
 use mathlib.Core.List.{List, [], ◌∷◌, ◌++◌, append-nil}
-use Prim.Native.Nat.{ℕ, zero, suc, ◌+◌, ◌-◌, ◌≤◌, ◌<◌}
+use Prim.Native.Nat.{ℕ, zero, ◌+◌, ◌-◌, ◌≤◌, ◌<◌}
 use native.Mathlib.Decide.{dec_lt, ℕ_discrete}
 use native.Mathlib.Omega.{arith}
 use borrow.Author.Tests.{eq-eqb, ne_eqb}
 use lib.ListN.{length, get_or, take, length-take}
 use lib.Seq.{take-length}
+use Rattle.std.proofs.lemmas.List.{take_min}
 use Rattle.format.specs.Formats.{most_stripe}
 use Rattle.stripe.specs.Stripes.{stripe_length}
 use Rattle.lines.specs.Lines.{line_room, refused_line}
@@ -28,12 +29,6 @@ pub record Steps (g : Stage) (input held : List ℕ) (room listRoom : ℕ) (step
   pub stands : Stands to step.state step.held
   pub writes : (rest : List ℕ) → to_write g (take step.used input ++ rest) ≡ and_then (output_of step) (to_write to rest)
   pub goes : most_stripe ≤ length held → most_stripe ≤ room → line_room ≤ listRoom → 0 < length input → 0 < step.used
-
--- a first part has as many bytes as it takes
-take_of_take : (n : ℕ) (l : List ℕ) → take (length (take n l)) l ≡ take n l
-take_of_take zero l = refl
-take_of_take (suc n) [] = refl
-take_of_take (suc n) (x ∷ l) = ap (λ (k : List ℕ). x ∷ k) (take_of_take n l)
 
 one_too_many : (bytes rest : List ℕ) → length bytes ≢ 0 → ending (bytes ++ rest) ≡ refused_with 11
 unfolding ending
@@ -66,7 +61,7 @@ module _ (r : Repair) (input held : List ℕ) (room listRoom : ℕ) where
               let step : step_of r input held room listRoom ≡ took r (take n input) held =
               taking r input held room listRoom some wide lacks (rw is (omega arith)) (rw is (omega arith))
               ∙ ap (λ (k : ℕ). took r (take (k - r.have) input) held) is in
-              let front : take (took r (take n input) held).used input ≡ take n input = ap (λ (k : ℕ). take k input) l.uses ∙ take_of_take n input in
+              let front : take (took r (take n input) held).used input ≡ take n input = ap (λ (k : ℕ). take k input) (l.uses ∙ length-take n input) ∙ take_min n input in
               let many : 0 < length (take n input) = rw (length-take n input) (omega (arith, some)) in
               rw step record { to = l.to; stands = l.stands; writes = λ rest. rw front (l.writes rest); goes = λ a b c d. rw l.uses many }
 

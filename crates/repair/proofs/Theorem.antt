@@ -5,7 +5,6 @@
 use mathlib.Core.Path.{◌≡◌, sym, ap, ap₂, refl, ◌∙◌}
 use mathlib.Core.List.{List, [], ◌∷◌, ◌++◌}
 use Prim.Native.Nat.{ℕ, zero, suc, ◌+◌, ◌-◌, ◌≤◌, ◌<◌}
-use native.Mathlib.Nat.{zero-lt-suc}
 use native.Mathlib.Omega.{arith}
 use lib.ListN.{length, take, drop, length-drop}
 use lib.Seq.{sets, sets-eq, take_at, take_all}
@@ -25,7 +24,7 @@ use Rattle.repair.proofs.FeedRuns.{Feeds, both-feed, feed_leads, feed-within, fe
 use Rattle.repair.proofs.Closing.{close_writes}
 
 -- what was written at the start of a buffer can be read there
-written-there : (out bytes : List ℕ) → length bytes ≤ length out → take (length bytes) (sets out 0 bytes) ≡ bytes
+pub written-there : (out bytes : List ℕ) → length bytes ≤ length out → take (length bytes) (sets out 0 bytes) ≡ bytes
 written-there out bytes h = rw (sets-eq bytes out 0 (omega arith)) (take_at bytes (drop (0 + length bytes) out) (length bytes) refl)
 
 -- what a call that does a feed shows in its buffers is what the feed writes
@@ -59,8 +58,7 @@ run-writes_the_repair {s} {h} new run = run-writes run (in_header []) (rw new (f
 -- ---- and every list of pieces has a run, in which each feed has room for a stripe and for a line
 
 fewer : (n used feeds : ℕ) → n ≤ suc feeds → (0 < n → 0 < used) → n - used ≤ feeds
-fewer zero used feeds h goes = omega arith
-fewer (suc n) used feeds h goes = omega (arith, goes (zero-lt-suc n))
+fewer n used feeds h goes = grind arith
 
 module _ (room listRoom : ℕ) (wide : most_stripe ≤ room) (lines : line_room ≤ listRoom) where
   feeds_lead : (feeds : ℕ) (g : Stage) (r : Repair) (input h : List ℕ) → Stands g r h → Feeds g input (feed_all room listRoom feeds r input h)

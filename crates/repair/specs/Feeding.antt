@@ -1,12 +1,12 @@
 -- A repair that is fed: what one step does, on any state and any buffers, not only those that a run leads to. The bytes of the header, and then
 -- those of each stripe, are held in a lent buffer until they are whole. A step takes bytes up to the end of what comes now. Assumes nothing.
-use Rattle.std.specs.Prelude.{ℕ, ◌+◌, ◌-◌, ◌≡◌, Bool, cond, ◌||◌, List, [], leb, ltb, eqb, length, take}
+use Rattle.std.specs.Prelude.{ℕ, ◌+◌, ◌-◌, ◌≡◌, ◌≤◌, Bool, cond, ◌||◌, List, [], ltb, eqb, length, take}
 use Rattle.std.proofs.lemmas.List.Edits.{sets}
 use Rattle.layout.specs.Arrays.{no_array, stripe_refusal}
 use Rattle.layout.specs.declared.Array.{Array}
 use Rattle.stripe.specs.Stripes.{stripe_length}
 use Rattle.lines.specs.Lines.{refused_line, line_room}
-use Rattle.lines.specs.Headers.{header_room, header_size, array_in}
+use Rattle.lines.specs.Headers.{header_size, array_in}
 use Rattle.mend.specs.Mending.{mended, listed}
 use Rattle.repair.specs.declared.Repair.{Repair}
 use Rattle.repair.specs.declared.Fed.{Fed}
@@ -56,6 +56,10 @@ entering stage a stripe = record { stage = stage; have = 0; array = a; stripe = 
 abbrev pub over : Repair → Repair
 over r = record { stage = over_stage; have = r.have; array = r.array; stripe = r.stripe }
 
+-- over, with the line of a refusal's number
+abbrev pub over_with : ℕ → Repair → List ℕ → ℕ → Step
+over_with used r held number = record { used = used; state = over r; held = held; image = []; list = refused_line number }
+
 unfoldable pub fresh_repair : Repair
 fresh_repair = entering header_stage no_array 0
 
@@ -68,9 +72,11 @@ size_now r held =
     (cond (eqb r.stage stripes_stage) (cond (eqb (stripe_refusal r.array r.stripe) 0) (stripe_length r.array) 0)
     0)
 
--- the bytes that are held are no more than a header has, or are those of a stripe of the array
-unfoldable pub in_range : Repair → Bool
-in_range r = cond (eqb r.stage header_stage) (leb r.have header_room) (eqb (stripe_refusal r.array r.stripe) 0)
+-- so many bytes stand in the buffer that holds, and have room in the image's; and the list has room for a line
+pub record Room (size : ℕ) (held image list : List ℕ) : Type 0 where
+  pub held_has : size ≤ length held
+  pub image_has : size ≤ length image
+  pub list_has : line_room ≤ length list
 
 -- ---- it is whole
 
@@ -80,7 +86,7 @@ header_whole used r held =
     let header = take r.have held in
     cond (eqb (repair_refusal header) 0)
     (record { used = used; state = entering stripes_stage (array_in header) 0; held = held; image = header; list = [] })
-    (record { used = used; state = over r; held = held; image = []; list = refused_line (repair_refusal header) })
+    (over_with used r held (repair_refusal header))
 
 -- a stripe is mended, and goes on to the image; then the next one comes, if there is one
 abbrev pub next_stripe : Repair → Repair
@@ -113,7 +119,7 @@ idle r held = record { used = 0; state = r; held = held; image = []; list = [] }
 -- comes is passed over
 unfoldable pub passed : ℕ → Repair → List ℕ → Step
 passed used r held =
-    cond (eqb r.stage behind_stage) (record { used = used; state = over r; held = held; image = []; list = refused_line 11 })
+    cond (eqb r.stage behind_stage) (over_with used r held 11)
     (record { used = used; state = r; held = held; image = []; list = [] })
 
 -- there is no room for it: in the buffer that holds, or in the image's

@@ -4,16 +4,15 @@ ghost use Rattle.std.proofs.lemmas.List.Edits.{sets};
 ghost use Rattle.repair.specs.Feeding.{Does, fresh_repair, closing};
 ghost use Rattle.repair.specs.Feeds.{feed_of};
 
-use crate::steps::step;
-use crate::{Fed, Repair, entering};
-use lines::ROOM;
+use crate::{Fed, Repair};
+use lines::{ROOM, Stage};
+use refusal::Refusal;
 
 // The state of a new repair.
 pub fn new() -> Repair
     ensures { result ≡ fresh_repair }
 {
-    let array = layout::no_array();
-    entering(0, array, 0)
+    Repair::entering(Stage::Header, layout::no_array(), 0)
 }
 
 // Takes steps until one uses nothing: all of the input is used, or there is no room for what comes next. What is written of the image and of the
@@ -21,34 +20,23 @@ pub fn new() -> Repair
 pub fn feed(state: Repair, input: &[u8], held: &mut [u8], image: &mut [u8], list: &mut [u8]) -> Fed
     ensures { Does (feed_of state input.now held.old (length image.old) (length list.old)) result held.new image.old image.new list.old list.new }
 {
-    let mut repair = state;
-    let mut at: usize = 0;
-    let mut written: usize = 0;
-    let mut listed: usize = 0;
+    let mut all = state.silent(0);
     loop {
-        let fed = step(
-            repair,
-            &input[at..],
+        let more = all.state.step(
+            &input[all.used..],
             held,
-            &mut image[written..],
-            &mut list[listed..],
+            &mut image[all.written..],
+            &mut list[all.listed..],
         );
-        let used = fed.used;
-        let more = fed.written;
-        let lines = fed.listed;
-        repair = fed.state;
-        at += used;
-        written += more;
-        listed += lines;
-        if used == 0 {
-            break;
+        all = Fed {
+            state: more.state,
+            used: all.used + more.used,
+            written: all.written + more.written,
+            listed: all.listed + more.listed,
+        };
+        if more.used == 0 {
+            return all;
         }
-    }
-    Fed {
-        state: repair,
-        used: at,
-        written: written,
-        listed: listed,
     }
 }
 
@@ -57,15 +45,12 @@ pub fn close(state: Repair, list: &mut [u8]) -> usize
     ensures value { result ≡ length (closing state (length list.old)) }
     ensures list_after { list.new ≡ sets list.old 0 (closing state (length list.old)) }
 {
-    let stage = state.stage;
     if list.len() < ROOM {
         return 0;
     }
-    if stage == 0 {
-        return lines::refused_line(list, 10);
+    match Stage::from(state.stage) {
+        Stage::Header => lines::refused_line(list, u8::from(Refusal::Header)),
+        Stage::Stripes => lines::refused_line(list, u8::from(Refusal::Image)),
+        Stage::Behind | Stage::Over => 0,
     }
-    if stage == 1 {
-        return lines::refused_line(list, 11);
-    }
-    0
 }

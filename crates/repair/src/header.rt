@@ -1,36 +1,26 @@
-// The header of an image that is to be repaired, in the bytes that are held.
-ghost use Rattle.std.specs.Prelude.{◌≡◌, take, replicate};
-ghost use Rattle.std.proofs.lemmas.List.Edits.{sets};
-ghost use Rattle.lines.specs.Headers.{header_room};
+// The header of an image that is to be repaired.
+ghost use Rattle.std.specs.Prelude.{◌≡◌};
+ghost use Rattle.refusal.specs.Refusals.{told};
 ghost use Rattle.repair.specs.Repairs.{repair_refusal};
 
-use lines::HEADER;
-use xor::least;
+use refusal::Refusal;
 
-// The bytes that are held, as many as a header may have; zeros behind them.
-pub fn header_in(held: &[u8]) -> [u8; HEADER]
-    ensures { result ≡ sets (replicate header_room 0) 0 (take header_room held.now) }
-{
-    let mut header = [0u8; HEADER];
-    let count = least(HEADER, held.len());
-    copy::put(&mut header, 0, &held[0..count]);
-    header
-}
+// The method of large blocks, which are not repaired.
+const LARGE: u8 = 3;
 
-// The refusal number of a header of which `have` bytes came: that of a report, and 12 for method 3 before any 13.
-pub fn refusal_of(header: [u8; HEADER], have: usize) -> u8
-    ensures { result ≡ repair_refusal (take have header) }
+// Refuses a header, or as much of it as came, as a report does, and large blocks: before a row length that does not fit.
+pub fn check_header(header: &[u8]) -> Result<(), Refusal>
+    ensures { told result ≡ repair_refusal header.now }
 {
-    let refusal = lines::header_refusal(header, have);
-    let method = lines::array_in(header).method;
-    if method != 3 {
-        return refusal;
+    let checked = lines::check_header(header);
+    if lines::array_in(header).method != LARGE {
+        return checked;
     }
-    if refusal == 0 {
-        return 12;
+    match checked {
+        Ok(()) => Err(Refusal::Method),
+        Err(refusal) => match refusal {
+            Refusal::Row => Err(Refusal::Method),
+            _ => Err(refusal),
+        },
     }
-    if refusal == 13 {
-        return 12;
-    }
-    refusal
 }

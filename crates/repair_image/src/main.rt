@@ -50,31 +50,48 @@ fn put_out<I: Write, L: Write>(
     Ok(())
 }
 
+// The bytes that are held, and room for what a feed gives of the image and of the list.
+#[derive(Drop)]
+struct Buffers {
+    held: [u8; ROOM],
+    image: [u8; ROOM],
+    list: [u8; LINES],
+}
+
 // Feeds the repair with a piece of input until it is used up, and writes out what each feed gives. After an error the outputs may hold a beginning of
 // theirs, and the buffers anything.
 fn pass<I: Write, L: Write>(
     repair: Repair,
     input: &[u8],
-    held: &mut [u8],
-    bytes: &mut [u8],
-    lines: &mut [u8],
+    buffers: &mut Buffers,
     mended: &mut I,
     list: &mut L,
 ) -> Result<Repair, Stop>
-    ensures { Reached repair held.old → most_stripe ≤ length bytes.old → line_room ≤ length lines.old → IfOk result (λ s. (put : Output) × Passes repair held.old input.now s held.new put
+    ensures { Reached repair buffers.old.held → IfOk result (λ s. (put : Output) × Passes repair buffers.old.held input.now s buffers.new.held put
         × Appends (I.contents mended.old) (I.contents mended.new) put.image × Appends (L.contents list.old) (L.contents list.new) put.list) }
 {
     let mut state = repair;
-    let mut at: usize = 0;
-    while at < input.len() {
-        let fed = repair::feed(state, &input[at..], held, bytes, lines);
+    let mut rest = input;
+    while !rest.is_empty() {
+        let fed = repair::feed(
+            state,
+            rest,
+            &mut buffers.held,
+            &mut buffers.image,
+            &mut buffers.list,
+        );
         state = fed.state;
-        put_out(&bytes[..fed.written], &lines[..fed.listed], mended, list)?;
+        put_out(
+            &buffers.image[..fed.written],
+            &buffers.list[..fed.listed],
+            mended,
+            list,
+        )?;
         // Never so, by repair's law feed_goes_on: there is room for a stripe and for a line.
         if fed.used == 0 {
             break;
         }
-        at += fed.used;
+        rest = &rest[fed.used..];
     }
     Ok(state)
 }
@@ -98,26 +115,20 @@ fn mend<R: Read, I: Write, L: Write>(
     ensures list { OnOk result (IfSome (R.remaining image.old) (λ bytes. length bytes < u64.MAX → Appends (L.contents list.old) (L.contents list.new) (repair_of bytes).list)) }
 {
     let mut input = [0u8; INPUT];
-    let mut lines = [0u8; LINES];
-    let mut held = [0u8; ROOM];
-    let mut bytes = [0u8; ROOM];
+    let mut buffers = Buffers {
+        held: [0; ROOM],
+        image: [0; ROOM],
+        list: [0; LINES],
+    };
     let mut state = repair::new();
     for _ in 0..u64::MAX {
         let count = image.read(&mut input)?;
         if count == 0 {
             break;
         }
-        state = pass(
-            state,
-            &input[..count],
-            &mut held,
-            &mut bytes,
-            &mut lines,
-            mended,
-            list,
-        )?;
+        state = pass(state, &input[..count], &mut buffers, mended, list)?;
     }
-    end(state, &mut lines, list)
+    end(state, &mut buffers.list, list)
 }
 
 fn main(rt: HostRuntime) -> io::Result<()> {

@@ -1,10 +1,11 @@
 -- Which step a call of feed takes: none without room or input, else the one of its stage. Assumes nothing.
-use mathlib.Core.Path.{◌≡◌}
-use mathlib.Core.Bool.{true}
+use mathlib.Core.Path.{◌≡◌, refl}
+use mathlib.Core.Bool.{Bool, true, false, cond, ◌||◌}
 use mathlib.Core.List.{List}
 use Prim.Native.Nat.{ℕ, ◌≤◌, ◌<◌}
 use native.Mathlib.Omega.{arith}
 use borrow.Author.Tests.{lt-ltb, le-ltb, eq-eqb, ne_eqb}
+use lib.Dec.{ltb}
 use lib.ListN.{length, take}
 use Rattle.lines.specs.Lines.{line_room}
 use Rattle.report.specs.declared.Report.{Report}
@@ -16,9 +17,13 @@ module _ (r : Report) (input w : List ℕ) where
     unfolding feed_step
     without_room h = rw (lt-ltb room line_room h)
 
-    pub without_input : line_room ≤ room → length input ≡ 0 → feed_step r input w room ≡ idle r w
+    pub without_input : length input ≡ 0 → feed_step r input w room ≡ idle r w
     unfolding feed_step
-    without_input h e = rw (le-ltb room line_room h, eq-eqb (length input) 0 e)
+    without_input e = rw (eq-eqb (length input) 0 e) (either (ltb room line_room))
+      where
+        either : (t : Bool) → cond (t || true) (idle r w) (stage_step r input w) ≡ idle r w
+        either true = refl
+        either false = refl
 
     pub with_both : line_room ≤ room → 0 < length input → feed_step r input w room ≡ stage_step r input w
     unfolding feed_step

@@ -9,7 +9,8 @@ use lib.Seq.{take_all}
 use Rattle.layout.specs.declared.Array.{Array}
 use Rattle.layout.proofs.Ranges.{stripe_sound}
 use Rattle.stripe.specs.Stripes.{stripe_length}
-use Rattle.lines.specs.Lines.{refused_line, total_line, Tally, line_room}
+use Rattle.lines.specs.declared.tally.Tally.{Tally}
+use Rattle.lines.specs.Lines.{refused_line, total_line, line_room}
 use Rattle.lines.specs.Headers.{header_size}
 use Rattle.lines.proofs.Headers.{short_refused}
 use Rattle.report.specs.declared.Report.{Report}

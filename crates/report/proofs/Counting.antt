@@ -8,9 +8,16 @@ use lib.Dec.{eqb}
 use lib.ListN.{get_or}
 use Rattle.verdict.specs.declared.Verdict.TheVariants.{Clean, Bad, Torn, Unchecked}
 use Rattle.verdict.specs.Verdicts.{verdict_numbers}
-use Rattle.lines.specs.Lines.{Tally}
-use Rattle.report.specs.Reports.{counted}
+use Rattle.lines.specs.declared.tally.Tally.{Tally}
+use Rattle.report.specs.Reports.{none, counted}
 use Rattle.report.proofs.Stages.{Counted}
+
+-- the code's default
+pub none-is : {t : Tally} → (t.clean ≡ 0) × ((t.bad ≡ 0) × ((t.unchecked ≡ 0) × (t.torn ≡ 0))) → t ≡ none
+none-is {t} h = zeros t.clean t.bad t.unchecked t.torn h.0 h.1.0 h.1.1.0 h.1.1.1
+  where
+    zeros : (a b c d : ℕ) → a ≡ 0 → b ≡ 0 → c ≡ 0 → d ≡ 0 → record { clean = a; bad = b; unchecked = c; torn = d } ≡ none
+    zeros a b c d e f g h = rw (e, f, g, h)
 
 -- each kind of verdict by itself
 module _ (t : Tally) where

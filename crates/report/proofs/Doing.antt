@@ -1,25 +1,27 @@
 -- What a call of feed or close does, for each of its returns. Assumes nothing.
 use mathlib.Core.Path.{◌≡◌, refl, sym, ap, ◌∙◌}
-use mathlib.Core.Bool.{true, false, cond}
-use mathlib.Core.List.{List, [], ◌∷◌}
-use mathlib.Core.Logic.{◌≢◌}
-use Prim.Native.Nat.{ℕ, zero, suc, ◌+◌, ◌-◌, ◌≤◌, ◌<◌, min}
-use native.Mathlib.Nat.{sub-zero, zero-min, min-zero, suc-min-suc}
+use mathlib.Core.Bool.{Bool, true, false, cond}
+use mathlib.Core.List.{List, []}
+use Prim.Native.Nat.{ℕ, ◌+◌, ◌≤◌, ◌<◌, min}
 use native.Mathlib.Omega.{arith}
 use borrow.Author.Tests.{lt-ltb, le-ltb, eq-eqb, ne_eqb}
+use lib.Dec.{ltb}
 use lib.ListN.{length, take, length-take}
 use lib.Seq.{sets}
+use Rattle.std.proofs.lemmas.List.{take_min}
+use Rattle.refusal.specs.Refusals.{number}
+use Rattle.refusal.specs.declared.Refusal.{Refusal}
+use Rattle.refusal.proofs.Passing.{number-some}
 use Rattle.layout.specs.declared.Array.{Array}
 use Rattle.scan.specs.declared.Scan.{Scan}
 use Rattle.lines.specs.Text.{Written}
-use Rattle.lines.specs.Lines.{line_room, first_line, refused_line, total_line}
-use Rattle.lines.specs.Headers.{header_room, header_size, array_in, header_refusal}
-use Rattle.lines.proofs.Headers.{array-there}
+use Rattle.lines.specs.Lines.{line_room, fitting, first_line, refused_line, total_line}
+use Rattle.lines.specs.Headers.{header_size, array_in, header_refusal}
 use Rattle.lines.proofs.Texts.{line-long}
 use Rattle.report.specs.declared.Report.{Report}
 use Rattle.report.specs.declared.Fed.{Fed}
 use Rattle.report.specs.Reports.{none}
-use Rattle.report.proofs.Choosing.{without_room, without_input, in_the_header, behind_the_last}
+use Rattle.report.proofs.Choosing.{without_room, without_input, in_the_header, behind_the_last, when_over}
 use Rattle.report.specs.Feeding.{Step, Does, begun_scan, begun_work, holding, entering, ended, header_came, header_whole, header_held, header_took, header_lacks, stripe_fit, block_lacks, stripe_took, skipped, stage_step, feed_step, tally_of, close_line}
 
 -- a call that does a step does any that equals it
@@ -39,23 +41,20 @@ with_line used s t w v text o p n e f written =
 
 -- ---- the header
 
-module _ (used : ℕ) (r : Report) (w o p : List ℕ) (refusal n : ℕ) (s : Report)
-    (told : refusal ≡ header_refusal (header_came r)) where
-  pub header_refused : refusal ≢ 0 → Written o 0 (refused_line refusal) p n → s ≡ ended r
-      → Does (header_whole used r w) (record { state = s; used = used; written = n }) w o p
+module _ (used : ℕ) (r : Report) (w o p : List ℕ) where
+  pub header_refused : (refusal : Refusal) (a : Fed) → number refusal ≡ header_refusal (header_came r)
+      → Does (record { used = used; state = ended r; work = w; line = refused_line (number refusal) }) a w o p
+      → Does (header_whole used r w) a w o p
   unfolding header_whole
-  header_refused h written e =
-      rw (ne_eqb (header_refusal (header_came r)) 0 (λ z. h (told ∙ z)))
-      (with_line used s (ended r) w w (refused_line (header_refusal (header_came r))) o p n e refl (rw (sym told) written))
+  header_refused refusal a told did = rw (ne_eqb (header_refusal (header_came r)) 0 (λ z. number-some refusal (told ∙ z)), ← told) did
 
-  pub header-accepted : (a : Array) (scan : Scan) (v : List ℕ) → length r.header ≡ header_room → refusal ≡ 0 → a ≡ array_in r.header → Written o 0 (first_line a) p n
-      → scan ≡ begun_scan a 0 w → v ≡ begun_work a 0 w → s ≡ entering 1 r.header scan none
+  pub header-accepted : (n : ℕ) (s : Report) (a : Array) (scan : Scan) (v : List ℕ) → 0 ≡ header_refusal (header_came r) → a ≡ array_in (header_came r)
+      → Written o 0 (first_line a) p n → scan ≡ begun_scan a 0 w → v ≡ begun_work a 0 w → s ≡ entering 1 r.header scan none
       → Does (header_whole used r w) (record { state = s; used = used; written = n }) v o p
   unfolding header_whole
-  header-accepted a scan v long z same written begun f e =
+  header-accepted n s a scan v told same written begun f e =
       let state = e ∙ ap (λ (x : Scan). entering 1 r.header x none) begun in
-      let taken = sym told ∙ z in
-      rw (eq-eqb (header_refusal (header_came r)) 0 taken, array-there r.header r.have long taken, sym same)
+      rw (eq-eqb (header_refusal (header_came r)) 0 (sym told), sym same)
       (with_line used s (entering 1 r.header (begun_scan a 0 w) none) v (begun_work a 0 w) (first_line a) o p n state f written)
 
 module _ (r : Report) (bytes w : List ℕ) (held : Report)
@@ -78,17 +77,12 @@ module _ (r : Report) (bytes w : List ℕ) (held : Report)
 
 -- ---- the part of the input that is lacking
 
-take_min : (k : ℕ) (l : List ℕ) → take (min k (length l)) l ≡ take k l
-take_min zero l = rw zero-min
-take_min (suc k) [] = rw min-zero
-take_min (suc k) (x ∷ l) = rw (suc-min-suc, take_min k l)
-
 -- the code's count of bytes is that many, or all
 module _ (k n count : ℕ) (input : List ℕ) (lacks : k ≡ n) (told : count ≡ min k (length input)) where
-  pub part_lacking : take (count - 0) input ≡ take n input
-  part_lacking = rw (sub-zero, told, lacks) (take_min n input)
+  pub part_lacking : take count input ≡ take n input
+  part_lacking = rw (told, lacks) (take_min n input)
 
-  pub part-short : length (take (count - 0) input) ≤ n
+  pub part-short : length (take count input) ≤ n
   part-short = rw part_lacking (simp length-take (omega arith))
 
 -- ---- the stages
@@ -110,14 +104,13 @@ module _ (r : Report) (input w o : List ℕ) where
     unfolding stage_step
     stage_of_stripes e d = rw (ne_eqb r.stage 0 (λ z. omega arith), eq-eqb r.stage 1 e) d
 
-  pub stage_over : r.stage ≢ 0 → r.stage ≢ 1 → r.stage ≢ 2 → Does (stage_step r input w) (record { state = r; used = length input; written = 0 }) w o o
-  unfolding stage_step
-  stage_over e f g = rw (ne_eqb r.stage 0 e, ne_eqb r.stage 1 f, ne_eqb r.stage 2 g) (silent (length input) r w o)
+  pub stage_over : 2 < r.stage → Does (stage_step r input w) (record { state = r; used = length input; written = 0 }) w o o
+  stage_over h = does_same (when_over r input w h) (silent (length input) r w o)
 
-  pub stage_of_last : (s : Report) (n : ℕ) (p : List ℕ) → r.stage ≡ 2 → s ≡ ended r → Written o 0 (refused_line 11) p n
-      → Does (stage_step r input w) (record { state = s; used = length input; written = n }) w o p
-  stage_of_last s n p e f written =
-      does_same (behind_the_last r input w e) (with_line (length input) s (ended r) w w (refused_line 11) o p n f refl written)
+  pub stage_of_last : (a : Fed) (p : List ℕ) → r.stage ≡ 2
+      → Does (record { used = length input; state = ended r; work = w; line = refused_line 11 }) a w o p
+      → Does (stage_step r input w) a w o p
+  stage_of_last a p e d = does_same (behind_the_last r input w e) d
 
   pub stage_of_header : (a : Fed) (v p : List ℕ) → r.stage ≡ 0 → Does (header_took r (take (header_lacks r) input) w) a v o p
       → Does (stage_step r input w) a v o p
@@ -128,38 +121,32 @@ module _ (r : Report) (input w o : List ℕ) where
     pub fed_without_room : room < line_room → Does (feed_step r input w room) (record { state = r; used = 0; written = 0 }) w o o
     fed_without_room h = does_same (without_room r input w room h) (silent 0 r w o)
 
-    pub fed_without_input : line_room ≤ room → length input ≡ 0 → Does (feed_step r input w room) (record { state = r; used = 0; written = 0 }) w o o
-    fed_without_input h e = does_same (without_input r input w room h e) (silent 0 r w o)
-
-    pub fed_with_both : (a : Fed) (v p : List ℕ) → line_room ≤ room → length input ≢ 0 → Does (stage_step r input w) a v o p
-        → Does (feed_step r input w room) a v o p
-    unfolding feed_step
-    fed_with_both a v p h e d = rw (le-ltb room line_room h, ne_eqb (length input) 0 e) d
+    pub fed_without_input : length input ≡ 0 → Does (feed_step r input w room) (record { state = r; used = 0; written = 0 }) w o o
+    fed_without_input e = does_same (without_input r input w room e) (silent 0 r w o)
 
 -- ---- close
 
 module _ (r : Report) (room : ℕ) where
-  pub no_room_to_close : room < line_room → close_line r room ≡ []
+  pub closed_in_header : r.stage ≡ 0 → fitting room (refused_line 10) ≡ close_line r room
+  unfolding close_line fitting
+  closed_in_header e = rw (eq-eqb r.stage 0 e)
+
+  pub closed_in_stripes : r.stage ≡ 1 → fitting room (refused_line 11) ≡ close_line r room
+  unfolding close_line fitting
+  closed_in_stripes e = rw (ne_eqb r.stage 0 (λ z. omega arith), eq-eqb r.stage 1 e)
+
+  pub closed-behind : r.stage ≡ 2 → fitting room (total_line r.scan.array (tally_of r)) ≡ close_line r room
+  unfolding close_line fitting
+  closed-behind e = rw (ne_eqb r.stage 0 (λ z. omega arith), ne_eqb r.stage 1 (λ z. omega arith), eq-eqb r.stage 2 e)
+
+  pub closed_already : 2 < r.stage → close_line r room ≡ []
   unfolding close_line
-  no_room_to_close h = rw (lt-ltb room line_room h)
-
-  module _ (enough : line_room ≤ room) where
-    pub closed_in_header : r.stage ≡ 0 → refused_line 10 ≡ close_line r room
-    unfolding close_line
-    closed_in_header e = rw (le-ltb room line_room enough, eq-eqb r.stage 0 e)
-
-    pub closed_in_stripes : r.stage ≡ 1 → refused_line 11 ≡ close_line r room
-    unfolding close_line
-    closed_in_stripes e = rw (le-ltb room line_room enough, ne_eqb r.stage 0 (λ z. omega arith), eq-eqb r.stage 1 e)
-
-    pub closed-behind : r.stage ≡ 2 → total_line r.scan.array (tally_of r) ≡ close_line r room
-    unfolding close_line
-    closed-behind e =
-        rw (le-ltb room line_room enough, ne_eqb r.stage 0 (λ z. omega arith), ne_eqb r.stage 1 (λ z. omega arith), eq-eqb r.stage 2 e)
-
-    pub closed_already : r.stage ≢ 0 → r.stage ≢ 1 → r.stage ≢ 2 → close_line r room ≡ []
-    unfolding close_line
-    closed_already e f g = rw (le-ltb room line_room enough, ne_eqb r.stage 0 e, ne_eqb r.stage 1 f, ne_eqb r.stage 2 g)
+  closed_already h =
+      rw (ne_eqb r.stage 0 (λ z. omega arith), ne_eqb r.stage 1 (λ z. omega arith), ne_eqb r.stage 2 (λ z. omega arith)) (none (ltb room line_room))
+    where
+      none : (t : Bool) → ◌≡◌ {A = List ℕ} (cond t [] []) []
+      none true = refl
+      none false = refl
 
 -- what a line's writing says of close, and what no line does
 pub line_closes : (text line o p : List ℕ) (n : ℕ) → text ≡ line → Written o 0 text p n → (n ≡ length line) × (p ≡ sets o 0 line)

@@ -8,7 +8,8 @@ use Rattle.layout.specs.Arrays.{array_of, array_refusal}
 use Rattle.layout.specs.declared.Array.{Array}
 use Rattle.tag.specs.Numbers.{number_of}
 use Rattle.lines.specs.Text.{decimal, refused_word}
-use Rattle.lines.specs.Lines.{first_line, refused_line, Tally, line_room}
+use Rattle.lines.specs.declared.tally.Tally.{Tally}
+use Rattle.lines.specs.Lines.{first_line, refused_line, line_room}
 use Rattle.lines.specs.Headers.{form_of, form_size, later, array_in, header_refusal}
 use Rattle.report.specs.Reports.{ending, stripe_lines, report_of}
 use Rattle.report.specs.Feeding.{header_whole, header_held, header_took, stage_step, feed_step, close_line, fresh_report}

@@ -25,10 +25,10 @@ pub record Fit (r : Report) : Type 0 where
   pub members : r.scan.array.members ≤ 16
   pub short : r.have < stripe_length r.scan.array
   pub stripe : r.scan.stripe ≤ most_stripes
-  pub clean : r.clean ≤ r.scan.stripe
-  pub bad : r.bad ≤ r.scan.stripe
-  pub unchecked : r.unchecked ≤ r.scan.stripe
-  pub torn : r.torn ≤ r.scan.stripe
+  pub clean : r.tally.clean ≤ r.scan.stripe
+  pub bad : r.tally.bad ≤ r.scan.stripe
+  pub unchecked : r.tally.unchecked ≤ r.scan.stripe
+  pub torn : r.tally.torn ≤ r.scan.stripe
 
 module _ (r : Report) where
   abbrev sound_test : Bool
@@ -38,7 +38,7 @@ module _ (r : Report) where
   short_test = ltb r.have (stripe_length r.scan.array)
 
   abbrev few_tests : Bool
-  few_tests = leb r.clean r.scan.stripe && leb r.bad r.scan.stripe && leb r.unchecked r.scan.stripe && leb r.torn r.scan.stripe
+  few_tests = leb r.tally.clean r.scan.stripe && leb r.tally.bad r.scan.stripe && leb r.tally.unchecked r.scan.stripe && leb r.tally.torn r.scan.stripe
 
   -- the tests, one after the other
   pub out_of_range : stripe_refusal r.scan.array r.scan.stripe ≢ 0 → stripe_fit r ≡ false
@@ -59,10 +59,10 @@ module _ (r : Report) where
   pub fit-known : stripe_fit r ≡ true → Fit r
   unfolding stripe_fit
   fit-known e =
-      let clean-test = leb r.clean r.scan.stripe in
-      let bad-test = leb r.bad r.scan.stripe in
-      let unchecked-test = leb r.unchecked r.scan.stripe in
-      let t = both (sound_test && short_test && clean-test && bad-test && unchecked-test) (leb r.torn r.scan.stripe) e in
+      let clean-test = leb r.tally.clean r.scan.stripe in
+      let bad-test = leb r.tally.bad r.scan.stripe in
+      let unchecked-test = leb r.tally.unchecked r.scan.stripe in
+      let t = both (sound_test && short_test && clean-test && bad-test && unchecked-test) (leb r.tally.torn r.scan.stripe) e in
       let u = both (sound_test && short_test && clean-test && bad-test) unchecked-test t.0 in
       let b = both (sound_test && short_test && clean-test) bad-test u.0 in
       let c = both (sound_test && short_test) clean-test b.0 in
@@ -74,10 +74,10 @@ module _ (r : Report) where
         members = range.array.many;
         short = ltb-true r.have (stripe_length r.scan.array) s.1;
         stripe = omega (arith, range.here, range.array.most);
-        clean = leb-true r.clean r.scan.stripe c.1;
-        bad = leb-true r.bad r.scan.stripe b.1;
-        unchecked = leb-true r.unchecked r.scan.stripe u.1;
-        torn = leb-true r.torn r.scan.stripe t.1;
+        clean = leb-true r.tally.clean r.scan.stripe c.1;
+        bad = leb-true r.tally.bad r.scan.stripe b.1;
+        unchecked = leb-true r.tally.unchecked r.scan.stripe u.1;
+        torn = leb-true r.tally.torn r.scan.stripe t.1;
       }
 
 -- a piece leaves the scan's stripe
@@ -91,12 +91,12 @@ piece_keeps_stripe s m bytes k = go (eqb (piece_refusal s m (length bytes) k) 0)
 
 -- so the numbers of the state with more bytes stay small
 pub held_small : (r held : Report) (scan : Scan) (m : ℕ) (bytes : List ℕ) (k have : ℕ) → Fit r → scan ≡ piece_state r.scan m bytes k
-    → held ≡ holding r r.header have scan → held.scan.stripe + (held.clean + held.bad + held.unchecked + held.torn) ≤ 1099511627776
+    → held ≡ holding r r.header have scan → held.scan.stripe + (held.tally.clean + held.tally.bad + held.tally.unchecked + held.tally.torn) ≤ 1099511627776
 held_small r held scan m bytes k have f e h =
     let stripe : held.scan.stripe ≡ r.scan.stripe =
     ap (λ (x : Report). x.scan.stripe) h ∙ ap (λ (x : Scan). x.stripe) e ∙ piece_keeps_stripe r.scan m bytes k in
-    let clean : held.clean ≡ r.clean = ap (λ (x : Report). x.clean) h in
-    let bad : held.bad ≡ r.bad = ap (λ (x : Report). x.bad) h in
-    let unchecked : held.unchecked ≡ r.unchecked = ap (λ (x : Report). x.unchecked) h in
-    let torn : held.torn ≡ r.torn = ap (λ (x : Report). x.torn) h in
+    let clean : held.tally.clean ≡ r.tally.clean = ap (λ (x : Report). x.tally.clean) h in
+    let bad : held.tally.bad ≡ r.tally.bad = ap (λ (x : Report). x.tally.bad) h in
+    let unchecked : held.tally.unchecked ≡ r.tally.unchecked = ap (λ (x : Report). x.tally.unchecked) h in
+    let torn : held.tally.torn ≡ r.tally.torn = ap (λ (x : Report). x.tally.torn) h in
     omega (arith, stripe, clean, bad, unchecked, torn, f.stripe, f.clean, f.bad, f.unchecked, f.torn)

@@ -21,3 +21,4 @@ pub mod Theorem
 pub mod NineBytes
 pub mod Examples
 pub mod Promised
+pub mod Chunks

@@ -7,7 +7,8 @@ use lib.ListN.{length, take}
 use Rattle.layout.specs.Arrays.{stripe_refusal}
 use Rattle.layout.specs.declared.Array.{Array}
 use Rattle.stripe.specs.Stripes.{stripe_length}
-use Rattle.lines.specs.Lines.{Tally, line_room}
+use Rattle.lines.specs.declared.tally.Tally.{Tally}
+use Rattle.lines.specs.Lines.{line_room}
 use Rattle.lines.specs.Headers.{header_room, header_size}
 use Rattle.report.specs.declared.Report.{Report}
 use Rattle.report.specs.Reports.{ending, stripe_lines, report_of}

@@ -9,7 +9,8 @@ use lib.ListN.{length, take, length-take}
 use lib.Seq.{take-length}
 use Rattle.layout.specs.declared.Array.{Array}
 use Rattle.tag.specs.Blocks.{format_at}
-use Rattle.lines.specs.Lines.{refused_line, Tally, line_room}
+use Rattle.lines.specs.declared.tally.Tally.{Tally}
+use Rattle.lines.specs.Lines.{refused_line, line_room}
 use Rattle.lines.specs.Headers.{header_size}
 use Rattle.lines.proofs.Lines.{refused_line-fits}
 use Rattle.report.specs.declared.Report.{Report}
@@ -85,5 +86,5 @@ module _ (r : Report) (input w : List ℕ) (room : ℕ) where
     where
       go : Dec (room < line_room) → Dec (0 < length input) → Feeds g input room (feed_step r input w room)
       go (yes h) d = rw (without_room r input w room h) (nothing-done g q (λ wide some. absurd (omega arith)))
-      go (no h) (no k) = rw (without_input r input w room (omega arith) (omega arith)) (nothing-done g q (λ wide some. absurd (omega arith)))
+      go (no h) (no k) = rw (without_input r input w room (omega arith)) (nothing-done g q (λ wide some. absurd (omega arith)))
       go (no h) (yes k) = rw (with_both r input w room (omega arith) k) (stage_feeds (omega arith) k g q)

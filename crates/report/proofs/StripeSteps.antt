@@ -1,18 +1,20 @@
 -- The steps within the stripes, one law for each way out: what the calls on the way give makes the step done. Assumes nothing.
-use mathlib.Core.Path.{◌≡◌, refl, sym, ap, ap₂, ◌∙◌, subst}
-use mathlib.Core.List.{List, [], ◌∷◌}
+use mathlib.Core.Path.{◌≡◌, refl, ap, ap₂, ◌∙◌, subst}
+use mathlib.Core.List.{List}
 use Prim.Native.Nat.{ℕ, ◌+◌, ◌≤◌, ◌<◌}
 use native.Mathlib.Omega.{arith}
 use borrow.Author.Tests.{lt-ltb, le-ltb}
 use lib.ListN.{length}
 use Rattle.verdict.specs.declared.Verdict.{Verdict}
-use Rattle.verdict.specs.declared.Scrubbed.{Scrubbed}
-use Rattle.verdict.specs.declared.Scrubbed.TheVariants.{Refused, Found}
+use Rattle.std.proofs.Common.{Ok, Err}
+use Rattle.refusal.specs.Refusals.{number}
+use Rattle.refusal.specs.declared.Refusal.{Refusal}
 use Rattle.verdict.specs.Verdicts.{verdict_numbers, scrubbed_numbers}
 use Rattle.stripe.specs.Stripes.{stripe_length}
 use Rattle.scan.specs.declared.Scan.{Scan}
 use Rattle.lines.specs.Text.{Written}
-use Rattle.lines.specs.Lines.{stripe_line, refused_line, Tally}
+use Rattle.lines.specs.declared.tally.Tally.{Tally}
+use Rattle.lines.specs.Lines.{stripe_line, refused_line}
 use Rattle.lines.proofs.Texts.{line-long}
 use Rattle.report.specs.declared.Report.{Report}
 use Rattle.report.specs.declared.Fed.{Fed}
@@ -57,29 +59,16 @@ module _ (used : ℕ) (r : Report) (w : List ℕ) where
   abbrev refusal_step : ℕ → Step
   refusal_step number = record { used = used; state = ended r; work = w; line = refused_line number }
 
-  whole_without : (number : ℕ) → stripe_whole used r w (0 ∷ number ∷ 0 ∷ 0 ∷ 0 ∷ 0 ∷ []) ≡ refusal_step number
-  unfolding stripe_whole
-  whole_without number = refl
+  module _ {numbers out out' w' : List ℕ} {fed : Fed} where
+    pub not-judged : (refusal : Refusal) → scrubbed_numbers (Err refusal) ≡ numbers → Does (refusal_step (number refusal)) fed w' out out'
+        → Does (stripe_whole used r w numbers) fed w' out out'
+    unfolding stripe_whole
+    not-judged refusal told did = rw (← told) did
 
-  whole_with : (v : List ℕ) → stripe_whole used r w (1 ∷ 0 ∷ v) ≡ stripe_judged used r w v
-  unfolding stripe_whole
-  whole_with v = refl
-
-  module _ {answer : Scrubbed} {numbers : List ℕ} (told : scrubbed_numbers answer ≡ numbers) {out out' : List ℕ} where
-    pub not-judged : {number : ℕ} → answer ≡ Refused number → {written : ℕ} {state : Report}
-        → Written out 0 (refused_line number) out' written → state ≡ ended r
-        → Does (stripe_whole used r w numbers) (record { state = state; used = used; written = written }) w out out'
-    not-judged {number = number} e {written = written} {state = state} line over =
-        subst (λ (s : Step). Does s (record { state = state; used = used; written = written }) w out out')
-        (sym (whole_without number) ∙ ap (λ (x : Scrubbed). stripe_whole used r w (scrubbed_numbers x)) (sym e) ∙ ap (stripe_whole used r w) told)
-        record { uses = refl; leaves = over; writes = line-long line; combines = refl; shows = line.stands }
-
-    pub judged_by : {v : Verdict} → answer ≡ Found v → {w' : List ℕ} {fed : Fed}
-        → Does (stripe_judged used r w (verdict_numbers v)) fed w' out out' → Does (stripe_whole used r w numbers) fed w' out out'
-    judged_by {v = v} e {w' = w'} {fed = fed} did =
-        subst (λ (s : Step). Does s fed w' out out')
-        (sym (whole_with (verdict_numbers v)) ∙ ap (λ (x : Scrubbed). stripe_whole used r w (scrubbed_numbers x)) (sym e)
-        ∙ ap (stripe_whole used r w) told) did
+    pub judged_by : (v : Verdict) → scrubbed_numbers (Ok v) ≡ numbers → Does (stripe_judged used r w (verdict_numbers v)) fed w' out out'
+        → Does (stripe_whole used r w numbers) fed w' out out'
+    unfolding stripe_whole
+    judged_by v told did = rw (← told) did
 
 -- ---- bytes of one block, of a member, with the length of the stripe as the code has them
 

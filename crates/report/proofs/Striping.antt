@@ -16,7 +16,8 @@ use Rattle.tag.specs.Blocks.{format_at}
 use Rattle.stripe.specs.Stripes.{stripe_length}
 use Rattle.scan.specs.declared.Scan.{Scan}
 use Rattle.scan.specs.Scans.{start_work, piece_work}
-use Rattle.lines.specs.Lines.{stripe_line, Tally}
+use Rattle.lines.specs.declared.tally.Tally.{Tally}
+use Rattle.lines.specs.Lines.{stripe_line}
 use Rattle.lines.proofs.Lines.{stripe-line-fits}
 use Rattle.report.specs.declared.Report.{Report}
 use Rattle.report.specs.Reports.{counted, verdict_of, stripe_lines}
@@ -132,20 +133,20 @@ module _ (a : Array) (stripe : ℕ) (t : Tally) (h : List ℕ) (r : Report) (w :
   is_fit =
       let same = q.tally in
       let few = q.counted in
-      let clean : r.clean ≤ stripe = omega (arith, ap (λ (x : Tally). x.clean) same, few.clean) in
-      let bad : r.bad ≤ stripe = omega (arith, ap (λ (x : Tally). x.bad) same, few.bad) in
-      let unchecked : r.unchecked ≤ stripe = omega (arith, ap (λ (x : Tally). x.unchecked) same, few.unchecked) in
-      let torn : r.torn ≤ stripe = omega (arith, ap (λ (x : Tally). x.torn) same, few.torn) in
+      let clean : r.tally.clean ≤ stripe = omega (arith, ap (λ (x : Tally). x.clean) same, few.clean) in
+      let bad : r.tally.bad ≤ stripe = omega (arith, ap (λ (x : Tally). x.bad) same, few.bad) in
+      let unchecked : r.tally.unchecked ≤ stripe = omega (arith, ap (λ (x : Tally). x.unchecked) same, few.unchecked) in
+      let torn : r.tally.torn ≤ stripe = omega (arith, ap (λ (x : Tally). x.torn) same, few.torn) in
       let short : r.have < stripe_length a = omega (arith, q.have, q.short) in
       rw (
         q.scanned.array,
         q.scanned.place,
         q.sound,
         lt-ltb r.have (stripe_length a) short,
-        le-leb r.clean stripe clean,
-        le-leb r.bad stripe bad,
-        le-leb r.unchecked stripe unchecked,
-        le-leb r.torn stripe torn,
+        le-leb r.tally.clean stripe clean,
+        le-leb r.tally.bad stripe bad,
+        le-leb r.tally.unchecked stripe unchecked,
+        le-leb r.tally.torn stripe torn,
       )
 
   module _ (bytes : List ℕ) (room : r.have % (format_at a).block_length + length bytes ≤ (format_at a).block_length) where

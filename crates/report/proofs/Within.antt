@@ -83,7 +83,7 @@ module _ (r : Report) (input w : List ℕ) where
     where
       go : Dec (room < line_room) → Dec (0 < length input) → Within (length input) room (feed_step r input w room)
       go (yes h) d = rw (without_room r input w room h) (record { uses = zero-le; fits = zero-le })
-      go (no h) (no k) = rw (without_input r input w room (omega arith) (omega arith)) (record { uses = zero-le; fits = zero-le })
+      go (no h) (no k) = rw (without_input r input w room (omega arith)) (record { uses = zero-le; fits = zero-le })
       go (no h) (yes k) =
           rw (with_both r input w room (omega arith) k) (record { uses = stage_within.uses; fits = omega (arith, stage_within.fits) })
 

@@ -9,7 +9,8 @@ use Rattle.tag.specs.Blocks.{format_at}
 use Rattle.stripe.specs.Stripes.{stripe_length}
 use Rattle.scan.specs.declared.Scan.{Scan}
 use Rattle.scan.specs.Scans.{empty_scan, start_state, start_work, piece_state, piece_work, finish_numbers}
-use Rattle.lines.specs.Lines.{first_line, refused_line, stripe_line, Tally, total_line, line_room}
+use Rattle.lines.specs.declared.tally.Tally.{Tally}
+use Rattle.lines.specs.Lines.{first_line, refused_line, stripe_line, total_line, line_room}
 use Rattle.lines.specs.Headers.{header_room, header_size, array_in, header_refusal}
 use Rattle.report.specs.declared.Report.{Report}
 use Rattle.report.specs.declared.Fed.{Fed}
@@ -64,7 +65,7 @@ pub record Does (step : Step) (answer : Fed) (work out outAfter : List ℕ) : Ty
   pub shows : outAfter ≡ sets out 0 step.line
 
 abbrev pub tally_of : Report → Tally
-tally_of r = record { clean = r.clean; bad = r.bad; unchecked = r.unchecked; torn = r.torn }
+tally_of r = r.tally
 
 -- ---- the stages: the header is coming; the stripes are; all stripes have come; the last line is written
 
@@ -83,16 +84,13 @@ ended_stage = 3
 -- ---- states: with more bytes held, of the header or by the scan; at the start of a stage or of a stripe; with the last line written
 
 abbrev pub holding : Report → List ℕ → ℕ → Scan → Report
-holding r header have scan =
-    record { stage = r.stage; header = header; have = have; scan = scan; clean = r.clean; bad = r.bad; unchecked = r.unchecked; torn = r.torn }
+holding r header have scan = record { stage = r.stage; header = header; have = have; scan = scan; tally = r.tally }
 
 abbrev pub entering : ℕ → List ℕ → Scan → Tally → Report
-entering stage header scan t =
-    record { stage = stage; header = header; have = 0; scan = scan; clean = t.clean; bad = t.bad; unchecked = t.unchecked; torn = t.torn }
+entering stage header scan t = record { stage = stage; header = header; have = 0; scan = scan; tally = t }
 
 abbrev pub ended : Report → Report
-ended r =
-    record { stage = ended_stage; header = r.header; have = r.have; scan = r.scan; clean = r.clean; bad = r.bad; unchecked = r.unchecked; torn = r.torn }
+ended r = record { stage = ended_stage; header = r.header; have = r.have; scan = r.scan; tally = r.tally }
 
 -- ---- the header
 
@@ -130,10 +128,10 @@ unfoldable pub stripe_fit : Report → Bool
 stripe_fit r =
     eqb (stripe_refusal r.scan.array r.scan.stripe) 0
     && ltb r.have (stripe_length r.scan.array)
-    && leb r.clean r.scan.stripe
-    && leb r.bad r.scan.stripe
-    && leb r.unchecked r.scan.stripe
-    && leb r.torn r.scan.stripe
+    && leb r.tally.clean r.scan.stripe
+    && leb r.tally.bad r.scan.stripe
+    && leb r.tally.unchecked r.scan.stripe
+    && leb r.tally.torn r.scan.stripe
 
 -- the stripe has its verdict: its line, and the scan of the stripe after it, if there is one
 unfoldable pub stripe_judged : ℕ → Report → List ℕ → List ℕ → Step

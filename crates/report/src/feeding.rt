@@ -2,68 +2,55 @@
 ghost use Rattle.std.specs.Prelude.{◌≡◌, ◌+◌, ◌-◌, ◌≤◌, length};
 ghost use Rattle.std.proofs.lemmas.List.Edits.{sets};
 ghost use Rattle.layout.specs.Arrays.{no_array};
-ghost use Rattle.lines.specs.Lines.{line_room};
 ghost use Rattle.scan.specs.Scans.{empty_scan};
 ghost use Rattle.report.specs.Feeding.{Does, holding, header_whole, header_took, header_step, stripe_step, stage_step, feed_step, close_line, fresh_report};
 
 use crate::lending::begin;
 use crate::stripes::{block_lacks, stripe_fit};
-use crate::{Fed, Report, ended, entering, stripe_took};
-use lines::{HEADER, ROOM};
+use crate::{Fed, Report, stripe_took};
+use lines::{HEADER, ROOM, Stage, Tally};
+use refusal::Refusal;
 use scan::Scan;
-use xor::least;
 
 // No scan: the state that a refused start gives.
 fn no_scan() -> Scan
     ensures { result ≡ empty_scan no_array 0 }
 {
     let mut nothing = [0u8; 1];
-    let refused = scan::start(layout::no_array(), 0, &mut nothing);
-    refused.state
+    scan::start(layout::no_array(), 0, &mut nothing).state
 }
 
 // The state of a new report.
 pub fn new() -> Report
     ensures { result ≡ fresh_report }
 {
-    let scan = no_scan();
     Report {
-        stage: 0,
+        stage: Stage::Header as u8,
         header: [0; HEADER],
         have: 0,
-        scan: scan,
-        clean: 0,
-        bad: 0,
-        unchecked: 0,
-        torn: 0,
+        scan: no_scan(),
+        tally: Tally::default(),
     }
 }
 
 // The header is whole: the first line and the scan of the first stripe, or the header's refusal.
-fn header_whole(used: usize, report: Report, work: &mut [u8], out: &mut [u8]) -> Fed
-    requires { line_room ≤ length out.old }
+// Stays: here and below two buffers are lent beside the state, as `feed` is lent them; a struct of two `&mut` would be made for one call.
+fn header_whole(used: usize, report: Report, work: &mut [u8], out: &mut [u8; ROOM]) -> Fed
     ensures { Does (header_whole used report work.old) result work.new out.old out.new }
 {
-    let header = report.header;
-    let have = report.have;
-    let refusal = lines::header_refusal(header, have);
-    if refusal != 0 {
-        let written = lines::refused_line(out, refusal);
-        let state = ended(report);
-        return Fed {
-            state: state,
-            used: used,
-            written: written,
-        };
-    }
-    let array = lines::array_in(header);
-    let written = lines::first_line(out, array);
-    let scan = begin(array, 0, work);
-    let state = entering(1, header, scan, 0, 0, 0, 0);
-    Fed {
-        state: state,
-        used: used,
-        written: written,
+    match lines::check_header(report.header_came()) {
+        Err(refusal) => report.refused(refusal, used, out),
+        Ok(()) => {
+            let array = lines::array_in(report.header_came());
+            let written = lines::first_line(out, array);
+            let scan = begin(array, 0, work);
+            let state = report.entering(Stage::Stripes, scan, Tally::default());
+            Fed {
+                state,
+                used,
+                written,
+            }
+        }
     }
 }
 
@@ -72,105 +59,67 @@ fn header_held(report: Report, bytes: &[u8]) -> Report
     requires { length bytes.now ≤ 15 - report.have }
     ensures { result ≡ holding report (sets report.header report.have bytes.now) (report.have + length bytes.now) report.scan }
 {
-    let have = report.have;
     let mut header = report.header;
-    let mut i: usize = 0;
-    while i < bytes.len() {
-        let at = have + i;
-        header[at] = bytes[i];
-        i += 1;
-    }
-    let mut held = report;
-    held.header = header;
-    held.have = have + bytes.len();
-    held
+    copy::put(&mut header, report.have, bytes);
+    report.holding(header, report.have + bytes.len(), report.scan)
 }
 
 // Takes bytes of the header, no more than it lacks.
-fn header_took(report: Report, bytes: &[u8], work: &mut [u8], out: &mut [u8]) -> Fed
-    requires bytes_len_bound { length bytes.now ≤ 15 - report.have }
-    requires line_room_in_bounds { line_room ≤ length out.old }
+fn header_took(report: Report, bytes: &[u8], work: &mut [u8], out: &mut [u8; ROOM]) -> Fed
+    requires { length bytes.now ≤ 15 - report.have }
     ensures { Does (header_took report bytes.now work.old) result work.new out.old out.new }
 {
     let used = bytes.len();
     let held = header_held(report, bytes);
-    let header = held.header;
-    let have = held.have;
-    if have < lines::header_size(header, have) {
+    if held.have < lines::header_size(held.header_came()) {
         return Fed {
             state: held,
-            used: used,
+            used,
             written: 0,
         };
     }
     header_whole(used, held, work, out)
 }
 
-// The difference of two numbers, or 0.
-fn less(a: usize, b: usize) -> usize
-    ensures { result ≡ a - b }
-{
-    if a < b { 0 } else { a - b }
-}
-
 // Takes of the input what the header lacks.
-fn header_step(report: Report, input: &[u8], work: &mut [u8], out: &mut [u8]) -> Fed
-    requires { line_room ≤ length out.old }
+fn header_step(report: Report, input: &[u8], work: &mut [u8], out: &mut [u8; ROOM]) -> Fed
     ensures { Does (header_step report input.now work.old) result work.new out.old out.new }
 {
-    let header = report.header;
-    let have = report.have;
-    let size = lines::header_size(header, have);
-    let lacks = less(size, have);
-    let count = least(lacks, input.len());
-    header_took(report, &input[0..count], work, out)
+    let size = lines::header_size(report.header_came());
+    let lacks = size.saturating_sub(report.have);
+    let count = lacks.min(input.len());
+    header_took(report, &input[..count], work, out)
 }
 
 // Takes of the input what the block lacks that comes now; an unfit state passes it over.
-fn stripe_step(report: Report, input: &[u8], work: &mut [u8], out: &mut [u8]) -> Fed
-    requires { line_room ≤ length out.old }
+fn stripe_step(report: Report, input: &[u8], work: &mut [u8], out: &mut [u8; ROOM]) -> Fed
     ensures { Does (stripe_step report input.now work.old) result work.new out.old out.new }
 {
-    let have = report.have;
-    let fit = stripe_fit(report);
-    if !fit {
+    if !stripe_fit(report) {
         return Fed {
             state: report,
             used: input.len(),
             written: 0,
         };
     }
-    let array = report.scan.array;
-    let lacks = block_lacks(array, have);
-    let count = least(lacks, input.len());
-    stripe_took(report, &input[0..count], work, out)
+    let lacks = block_lacks(report.scan.array, report.have);
+    let count = lacks.min(input.len());
+    stripe_took(report, &input[..count], work, out)
 }
 
 // One step, by the stage.
-fn stage_step(report: Report, input: &[u8], work: &mut [u8], out: &mut [u8]) -> Fed
-    requires { line_room ≤ length out.old }
+fn stage_step(report: Report, input: &[u8], work: &mut [u8], out: &mut [u8; ROOM]) -> Fed
     ensures { Does (stage_step report input.now work.old) result work.new out.old out.new }
 {
-    let stage = report.stage;
-    if stage == 0 {
-        return header_step(report, input, work, out);
-    }
-    if stage == 1 {
-        return stripe_step(report, input, work, out);
-    }
-    if stage == 2 {
-        let written = lines::refused_line(out, 11);
-        let state = ended(report);
-        return Fed {
-            state: state,
+    match Stage::from(report.stage) {
+        Stage::Header => header_step(report, input, work, out),
+        Stage::Stripes => stripe_step(report, input, work, out),
+        Stage::Behind => report.refused(Refusal::Image, input.len(), out),
+        Stage::Over => Fed {
+            state: report,
             used: input.len(),
-            written: written,
-        };
-    }
-    Fed {
-        state: report,
-        used: input.len(),
-        written: 0,
+            written: 0,
+        },
     }
 }
 
@@ -178,21 +127,18 @@ fn stage_step(report: Report, input: &[u8], work: &mut [u8], out: &mut [u8]) -> 
 pub fn feed(state: Report, input: &[u8], work: &mut [u8], out: &mut [u8]) -> Fed
     ensures { Does (feed_step state input.now work.old (length out.old)) result work.new out.old out.new }
 {
-    if out.len() < ROOM {
-        return Fed {
-            state: state,
-            used: 0,
-            written: 0,
-        };
+    let idle = Fed {
+        state,
+        used: 0,
+        written: 0,
+    };
+    if input.is_empty() {
+        return idle;
     }
-    if input.len() == 0 {
-        return Fed {
-            state: state,
-            used: 0,
-            written: 0,
-        };
+    match out.first_chunk_mut::<ROOM>() {
+        Some(line) => stage_step(state, input, work, line),
+        None => idle,
     }
-    stage_step(state, input, work, out)
 }
 
 // Writes the last line, if it is not written yet and there is room for it; answers its length.
@@ -200,26 +146,10 @@ pub fn close(state: Report, out: &mut [u8]) -> usize
     ensures value { result ≡ length (close_line state (length out.old)) }
     ensures out_after { out.new ≡ sets out.old 0 (close_line state (length out.old)) }
 {
-    let stage = state.stage;
-    if out.len() < ROOM {
-        return 0;
+    match Stage::from(state.stage) {
+        Stage::Header => lines::refused_line(out, u8::from(Refusal::Header)),
+        Stage::Stripes => lines::refused_line(out, u8::from(Refusal::Image)),
+        Stage::Behind => lines::total_line(out, state.scan.array, state.tally),
+        Stage::Over => 0,
     }
-    if stage == 0 {
-        return lines::refused_line(out, 10);
-    }
-    if stage == 1 {
-        return lines::refused_line(out, 11);
-    }
-    if stage == 2 {
-        let array = state.scan.array;
-        return lines::total_line(
-            out,
-            array,
-            state.clean,
-            state.bad,
-            state.unchecked,
-            state.torn,
-        );
-    }
-    0
 }

@@ -9,23 +9,25 @@ use crate::{Fed, Report, feed};
 pub fn fill(state: Report, input: &[u8], work: &mut [u8], out: &mut [u8]) -> Fed
     ensures { Does (fill_step state input.now work.old (length out.old)) result work.new out.old out.new }
 {
-    let mut report = state;
-    let mut at: usize = 0;
-    let mut filled: usize = 0;
+    let mut filled = Fed {
+        state,
+        used: 0,
+        written: 0,
+    };
     loop {
-        let fed = feed(report, &input[at..], work, &mut out[filled..]);
-        let used = fed.used;
-        let written = fed.written;
-        report = fed.state;
-        at += used;
-        filled += written;
-        if used == 0 {
-            break;
+        let fed = feed(
+            filled.state,
+            &input[filled.used..],
+            work,
+            &mut out[filled.written..],
+        );
+        filled = Fed {
+            state: fed.state,
+            used: filled.used + fed.used,
+            written: filled.written + fed.written,
+        };
+        if fed.used == 0 {
+            return filled;
         }
-    }
-    Fed {
-        state: report,
-        used: at,
-        written: filled,
     }
 }

@@ -5,15 +5,15 @@ ghost use Rattle.verdict.specs.Verdicts.{scrubbed_numbers};
 ghost use Rattle.report.specs.Feeding.{begun_scan, begun_work, took_scan, took_work, judgement};
 
 use layout::Array;
+use refusal::Refusal;
 use scan::Scan;
-use verdict::Scrubbed;
-use xor::least;
+use verdict::Verdict;
 
 // How long that front is, of so many bytes.
 fn front_end(array: Array, room: usize) -> usize
     ensures { result ≡ min (format_at array).data_length room }
 {
-    least(format::data_length(array.method), room)
+    format::data_length(array.method).min(room)
 }
 
 // Starts the scan of a stripe.
@@ -22,8 +22,7 @@ pub fn begin(array: Array, stripe: u64, work: &mut [u8]) -> Scan
     ensures work_after { work.new ≡ begun_work array stripe work.old }
 {
     let end = front_end(array, work.len());
-    let begun = scan::start(array, stripe, &mut work[0..end]);
-    begun.state
+    scan::start(array, stripe, &mut work[..end]).state
 }
 
 // Takes in bytes of one member's block.
@@ -32,14 +31,13 @@ pub fn take_in(scan: Scan, member: usize, bytes: &[u8], work: &mut [u8]) -> Scan
     ensures work_after { work.new ≡ took_work scan member bytes.now work.old }
 {
     let end = front_end(scan.array, work.len());
-    let taken = scan::piece(scan, member, bytes, &mut work[0..end]);
-    taken.state
+    scan::piece(scan, member, bytes, &mut work[..end]).state
 }
 
 // The scan's answer.
-pub fn judge(scan: Scan, work: &[u8]) -> Scrubbed
+pub fn judge(scan: Scan, work: &[u8]) -> Result<Verdict, Refusal>
     ensures { scrubbed_numbers result ≡ judgement scan work.now }
 {
     let end = front_end(scan.array, work.len());
-    scan::finish(scan, &work[0..end])
+    scan::finish(scan, &work[..end])
 }

@@ -6,35 +6,94 @@ mod fills;
 mod lending;
 mod stripes;
 
-ghost use Rattle.std.specs.Prelude.{◌≡◌, true, ◌+◌, ◌/◌, ◌≤◌, length};
+ghost use Rattle.std.specs.Prelude.{◌≡◌, ℕ, List, true, ◌+◌, ◌/◌, ◌≤◌, length};
+ghost use Rattle.refusal.specs.Refusals.{number};
 ghost use Rattle.verdict.specs.Verdicts.{verdict_numbers};
 ghost use Rattle.tag.specs.Blocks.{format_at};
 ghost use Rattle.stripe.specs.Stripes.{stripe_length};
-ghost use Rattle.lines.specs.Lines.{line_room};
-ghost use Rattle.report.specs.Reports.{counted};
-ghost use Rattle.report.specs.Feeding.{Does, judgement, holding, entering, ended, stripe_fit, stripe_judged, stripe_whole, block_lacks, stripe_took};
+ghost use Rattle.lines.specs.Lines.{stripes_in, refused_line};
+ghost use Rattle.lines.specs.Stages.{number_of};
+ghost use Rattle.report.specs.Feeding.{Does, judgement, holding, entering, ended, header_came, stripe_fit, stripe_judged, stripe_whole, block_lacks, stripe_took};
 
 pub use feeding::{close, feed, new};
 pub use fills::fill;
 use layout::Array;
 use lending::{begin, judge, take_in};
-use lines::HEADER;
+use lines::{HEADER, ROOM, Stage, Tally};
+use refusal::Refusal;
 use scan::Scan;
-use verdict::{Scrubbed, Verdict};
+use verdict::Verdict;
 
 // Where a report stands between the calls, beside the work buffer.
 // stage: 0 in the header, 1 in the stripes, 2 behind the last stripe, 3 when the last line is written.
 // have: how many bytes of the header, or of the stripe, have come.
 #[derive(Clone, Copy)]
 pub struct Report {
+    // Stays: `feed`, `fill` and `close` promise what they do in a state of any stage, so a type of these four would take less.
     pub stage: u8,
     pub header: [u8; HEADER],
+    // Stays: `feed` promises what it does at any `have`, past the header's end too, and it counts the bytes of a stripe as well.
     pub have: usize,
     pub scan: Scan,
-    pub clean: u64,
-    pub bad: u64,
-    pub unchecked: u64,
-    pub torn: u64,
+    pub tally: Tally,
+}
+
+impl Report {
+    // The bytes of the header that came.
+    fn header_came(&self) -> &[u8]
+        ensures { result.now ≡ header_came self.now }
+    {
+        &self.header[..self.have.min(HEADER)]
+    }
+
+    // The state with so many bytes of the header, or of the stripe.
+    fn holding(self, header: [u8; HEADER], have: usize, scan: Scan) -> Report
+        ensures { result ≡ holding self header have scan }
+    {
+        Report {
+            header,
+            have,
+            scan,
+            ..self
+        }
+    }
+
+    // The state at the start of a stage or of a stripe.
+    fn entering(self, stage: Stage, scan: Scan, tally: Tally) -> Report
+        ensures { result ≡ entering (number_of stage) self.header scan tally }
+    {
+        Report {
+            stage: stage as u8,
+            have: 0,
+            scan,
+            tally,
+            ..self
+        }
+    }
+
+    // The state when the last line is written.
+    // Stays: a repair's `over` does the same to another state; a trait of both states for this line would be no plainer.
+    fn ended(self) -> Report
+        ensures { result ≡ ended self }
+    {
+        Report {
+            stage: Stage::Over as u8,
+            ..self
+        }
+    }
+
+    // A refusal: its line, and the report is over.
+    fn refused(self, refusal: Refusal, used: usize, out: &mut [u8; ROOM]) -> Fed
+        ensures { (work : List ℕ) → Does (record { used = used; state = ended self; work = work; line = refused_line (number refusal) }) result work out.old out.new }
+    {
+        let written = lines::refused_line(out, u8::from(refusal));
+        let state = self.ended();
+        Fed {
+            state,
+            used,
+            written,
+        }
+    }
 }
 
 // The state to go on with, how many bytes of the input were used, and how many were written.
@@ -45,164 +104,46 @@ pub struct Fed {
     pub written: usize,
 }
 
-// The state at the start of a stage or of a stripe.
-fn entering(
-    stage: u8,
-    header: [u8; HEADER],
-    scan: Scan,
-    clean: u64,
-    bad: u64,
-    unchecked: u64,
-    torn: u64,
-) -> Report
-    ensures { result ≡ entering stage header scan (record { clean = clean; bad = bad; unchecked = unchecked; torn = torn }) }
-{
-    Report {
-        stage: stage,
-        header: header,
-        have: 0,
-        scan: scan,
-        clean: clean,
-        bad: bad,
-        unchecked: unchecked,
-        torn: torn,
-    }
-}
-
-// The state when the last line is written.
-fn ended(report: Report) -> Report
-    ensures { result ≡ ended report }
-{
-    let mut last = report;
-    last.stage = 3;
-    last
-}
-
-// The state with more bytes of the stripe.
-fn stripe_held(report: Report, have: usize, scan: Scan) -> Report
-    ensures { result ≡ holding report report.header have scan }
-{
-    let mut held = report;
-    held.have = have;
-    held.scan = scan;
-    held
-}
-
-// How many stripes were clean, bad, unchecked and torn.
-#[derive(Clone, Copy)]
-struct Counts {
-    clean: u64,
-    bad: u64,
-    unchecked: u64,
-    torn: u64,
-}
-
-// The counts with one more verdict.
-fn count_one(clean: u64, bad: u64, unchecked: u64, torn: u64, verdict: Verdict) -> Counts
-    requires { clean + bad + unchecked + torn ≤ 1099511627776 }
-    ensures { record { clean = result.clean; bad = result.bad; unchecked = result.unchecked; torn = result.torn } ≡ counted (record { clean = clean; bad = bad; unchecked = unchecked; torn = torn }) (verdict_numbers verdict) }
-{
-    match verdict {
-        Verdict::Clean => Counts {
-            clean: clean + 1,
-            bad: bad,
-            unchecked: unchecked,
-            torn: torn,
-        },
-        Verdict::Bad {
-            member: _,
-            count: _,
-            faults: _,
-        } => Counts {
-            clean: clean,
-            bad: bad + 1,
-            unchecked: unchecked,
-            torn: torn,
-        },
-        Verdict::Unchecked {
-            member: _,
-            count: _,
-        } => Counts {
-            clean: clean,
-            bad: bad,
-            unchecked: unchecked + 1,
-            torn: torn,
-        },
-        Verdict::Torn { place: _ } => Counts {
-            clean: clean,
-            bad: bad,
-            unchecked: unchecked,
-            torn: torn + 1,
-        },
-    }
-}
-
 // The stripe has its verdict: its line, and the scan of the stripe after it, if there is one.
 fn stripe_judged(
     used: usize,
     report: Report,
     verdict: Verdict,
     work: &mut [u8],
-    out: &mut [u8],
+    out: &mut [u8; ROOM],
 ) -> Fed
-    requires line_room_in_bounds { line_room ≤ length out.old }
-    requires torn_bound { report.scan.stripe + (report.clean + report.bad + report.unchecked + report.torn) ≤ 1099511627776 }
+    requires { report.scan.stripe + stripes_in report.tally ≤ 1099511627776 }
     ensures { Does (stripe_judged used report work.old (verdict_numbers verdict)) result work.new out.old out.new }
 {
-    let header = report.header;
     let scan = report.scan;
-    let array = scan.array;
-    let stripe = scan.stripe;
-    let stripes = array.stripes;
-    let written = lines::stripe_line(out, stripe, verdict);
-    let counts = count_one(
-        report.clean,
-        report.bad,
-        report.unchecked,
-        report.torn,
-        verdict,
-    );
-    let clean = counts.clean;
-    let bad = counts.bad;
-    let unchecked = counts.unchecked;
-    let torn = counts.torn;
-    let next = stripe + 1;
-    if next < stripes {
-        let fresh = begin(array, next, work);
-        let state = entering(1, header, fresh, clean, bad, unchecked, torn);
+    let written = lines::stripe_line(out, scan.stripe, verdict);
+    let tally = report.tally.counted(verdict);
+    let next = scan.stripe + 1;
+    if next < scan.array.stripes {
+        let fresh = begin(scan.array, next, work);
+        let state = report.entering(Stage::Stripes, fresh, tally);
         return Fed {
-            state: state,
-            used: used,
-            written: written,
+            state,
+            used,
+            written,
         };
     }
-    let state = entering(2, header, scan, clean, bad, unchecked, torn);
+    let state = report.entering(Stage::Behind, scan, tally);
     Fed {
-        state: state,
-        used: used,
-        written: written,
+        state,
+        used,
+        written,
     }
 }
 
 // The stripe is whole: by the scan's verdict, or the scan's refusal number, and the report is over.
-fn stripe_whole(used: usize, report: Report, work: &mut [u8], out: &mut [u8]) -> Fed
-    requires line_room_in_bounds { line_room ≤ length out.old }
-    requires torn_bound { report.scan.stripe + (report.clean + report.bad + report.unchecked + report.torn) ≤ 1099511627776 }
+fn stripe_whole(used: usize, report: Report, work: &mut [u8], out: &mut [u8; ROOM]) -> Fed
+    requires { report.scan.stripe + stripes_in report.tally ≤ 1099511627776 }
     ensures { Does (stripe_whole used report work.old (judgement report.scan work.old)) result work.new out.old out.new }
 {
-    let scan = report.scan;
-    let answer = judge(scan, work);
-    match answer {
-        Scrubbed::Refused(number) => {
-            let written = lines::refused_line(out, number);
-            let state = ended(report);
-            Fed {
-                state: state,
-                used: used,
-                written: written,
-            }
-        }
-        Scrubbed::Found(verdict) => stripe_judged(used, report, verdict, work, out),
+    match judge(report.scan, work) {
+        Err(refusal) => report.refused(refusal, used, out),
+        Ok(verdict) => stripe_judged(used, report, verdict, work, out),
     }
 }
 
@@ -211,8 +152,7 @@ fn stripe_length(array: Array) -> usize
     requires { array.members ≤ 16 }
     ensures { result ≡ stripe_length array }
 {
-    let members = array.members;
-    format::block_length(array.method) * members
+    format::block_length(array.method) * array.members
 }
 
 // How many whole blocks of the array some bytes are.
@@ -223,26 +163,23 @@ fn whole_blocks(array: Array, have: usize) -> usize
 }
 
 // Bytes of one block of the stripe.
-fn stripe_took(report: Report, bytes: &[u8], work: &mut [u8], out: &mut [u8]) -> Fed
+fn stripe_took(report: Report, bytes: &[u8], work: &mut [u8], out: &mut [u8; ROOM]) -> Fed
     requires report_value { stripe_fit report ≡ true }
     requires bytes_len_bound { length bytes.now ≤ block_lacks report }
-    requires line_room_in_bounds { line_room ≤ length out.old }
     ensures { Does (stripe_took report bytes.now work.old) result work.new out.old out.new }
 {
-    let scan = report.scan;
-    let array = scan.array;
-    let have = report.have;
-    let count = bytes.len();
-    let member = whole_blocks(array, have);
-    let next = take_in(scan, member, bytes, work);
-    let now = have + count;
-    let held = stripe_held(report, now, next);
+    let array = report.scan.array;
+    let used = bytes.len();
+    let member = whole_blocks(array, report.have);
+    let next = take_in(report.scan, member, bytes, work);
+    let now = report.have + used;
+    let held = report.holding(report.header, now, next);
     if now < stripe_length(array) {
         return Fed {
             state: held,
-            used: count,
+            used,
             written: 0,
         };
     }
-    stripe_whole(count, held, work, out)
+    stripe_whole(used, held, work, out)
 }

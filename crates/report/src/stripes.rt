@@ -5,42 +5,28 @@ ghost use Rattle.report.specs.Feeding.{stripe_fit};
 
 use crate::{Report, stripe_length};
 use layout::Array;
+use lines::Tally;
 
 // No count is above the number of the stripes before.
-fn few(stripe: u64, clean: u64, bad: u64, unchecked: u64, torn: u64) -> bool
-    ensures { result ≡ leb clean stripe && leb bad stripe && leb unchecked stripe && leb torn stripe }
+fn few(stripe: u64, tally: Tally) -> bool
+    ensures { result ≡ leb tally.clean stripe && leb tally.bad stripe && leb tally.unchecked stripe && leb tally.torn stripe }
 {
-    if clean > stripe {
-        return false;
-    }
-    if bad > stripe {
-        return false;
-    }
-    if unchecked > stripe {
-        return false;
-    }
-    torn <= stripe
+    tally.clean <= stripe
+        && tally.bad <= stripe
+        && tally.unchecked <= stripe
+        && tally.torn <= stripe
 }
 
 // Whether a state within the stripes is fit: its numbers are in range, its stripe is not whole yet, and its counts are small.
 pub fn stripe_fit(report: Report) -> bool
     ensures { result ≡ stripe_fit report }
 {
-    let scan = report.scan;
-    let array = scan.array;
-    let stripe = scan.stripe;
-    let have = report.have;
-    let clean = report.clean;
-    let bad = report.bad;
-    let unchecked = report.unchecked;
-    let torn = report.torn;
-    if layout::stripe_refusal(array, stripe) != 0 {
+    let array = report.scan.array;
+    let stripe = report.scan.stripe;
+    if layout::check_stripe(array, stripe).is_err() {
         return false;
     }
-    if have >= stripe_length(array) {
-        return false;
-    }
-    few(stripe, clean, bad, unchecked, torn)
+    report.have < stripe_length(array) && few(stripe, report.tally)
 }
 
 // How many bytes a block of the array lacks, when so many bytes of the stripe have come.

@@ -4,15 +4,13 @@ use mathlib.Core.Path.{◌≡◌, refl, sym, ap, ◌∙◌}
 use mathlib.Core.Bool.{Bool, true, false, not, cond, ◌&&◌, ◌||◌}
 use mathlib.Core.List.{List, [], ◌∷◌, map}
 use mathlib.Core.Logic.{◌≢◌}
-use Prim.Native.Nat.{ℕ, zero, suc, ◌+◌, ◌^◌, ◌≤◌, ◌<◌, zero-le, suc-le-suc}
+use Prim.Native.Nat.{ℕ, zero, suc, ◌^◌, ◌≤◌, ◌<◌, zero-le, suc-le-suc}
 use native.Mathlib.Nat.{le_of_suc-le-suc, not-suc-le-zero, zero-lt-suc}
-use native.Mathlib.Numerals.{add-one}
 use native.Mathlib.Decide.{ℕ_discrete, dec_lt}
 use native.Mathlib.Omega.{arith}
 use borrow.Author.Tests.{leb-true, le-leb, ltb-true, lt-ltb, eqb-true, eq-eqb, ne_eqb}
 use lib.Dec.{leb, ltb, eqb}
-use lib.ListN.{length, get_or, take, drop, replicate, length-take, drop_of_length-le, get_or-eq_default}
-use lib.Seq.{drop-cons, get_or-take}
+use lib.ListN.{length, get_or, take, replicate, get_or-eq_default}
 use Rattle.layout.specs.Answers.{refuse, after}
 use Rattle.layout.specs.Arrays.{no_array, stripe_refusal}
 use Rattle.layout.specs.declared.Array.{Array}
@@ -44,18 +42,6 @@ use Rattle.format.specs.Formats.{Format}
 
 -- ---- flags over the first n elements of a list
 
-module _ (f : ℕ → Bool) (l : List ℕ) (n i : ℕ) where
-  pub all-turn : (flag : Bool) → i < n → n ≤ length l → f (get_or l i 0) ≡ flag
-      → all (map f (drop i (take n l))) ≡ (flag && all (map f (drop (i + 1) (take n l))))
-  all-turn flag h k e =
-      let inside : i < length (take n l) = simp length-take (omega arith) in
-      rw (add-one, drop-cons (take n l) i 0, get_or-take n l i 0 h, e)
-
-  pub all_end : n ≤ i → all (map f (drop i (take n l))) ≡ true
-  all_end h =
-      let past : length (take n l) ≤ i = simp length-take (omega arith) in
-      rw (drop_of_length-le (take n l) past)
-
 both : (s t : Bool) → (s && t) ≡ true → (s ≡ true) × (t ≡ true)
 both true t e = (refl, e)
 both false t e = (e, (cc))
@@ -83,13 +69,6 @@ module _ (n : ℕ) (f : ℕ → Bool) where
 
   pub flag_table : ((i : ℕ) → i < n → f i ≡ true) → all (table n f) ≡ true
   flag_table h = at_all (table n f) (λ i l. let here : i < n = rw length-table at l in get_or-table n f true i here ∙ h i here)
-
-  pub table-unflagged : (i : ℕ) → i < n → f i ≡ false → all (table n f) ≡ false
-  table-unflagged i h e = go (all (table n f)) refl
-    where
-      go : (x : Bool) → all (table n f) ≡ x → x ≡ false
-      go true t = sym (table_flag t i h) ∙ e
-      go false t = refl
 
 -- ---- a choice by a refusal number
 

@@ -3,15 +3,13 @@
 use mathlib.Core.Path.{◌≡◌, refl, sym, ap, ap₂, ◌∙◌}
 use mathlib.Core.List.{List, [], ◌∷◌, ◌++◌}
 use mathlib.Core.Logic.{◌≢◌}
-use Prim.Native.Nat.{ℕ, zero, suc, ◌+◌, ◌*◌, ◌≤◌, ◌<◌}
+use Prim.Native.Nat.{ℕ, zero, suc, ◌+◌, ◌*◌, ◌≤◌}
 use native.Mathlib.Omega.{arith}
-use lib.Bits.{bit_xor}
 use lib.ListN.{length, take, drop, length-take}
 use lib.Seq.{get_or-take}
-use Rattle.format.specs.Formats.{Format, most_tags}
+use Rattle.format.specs.Formats.{Format}
 use Rattle.layout.specs.Answers.{answer}
 use Rattle.layout.specs.Places.{owner_refusal}
-use Rattle.format.proofs.Sizes.{times-next}
 use Rattle.layout.specs.declared.Array.{Array}
 use Rattle.tag.specs.Numbers.{number_of}
 use Rattle.tag.specs.Tags.{found, guard_due, due_at, expected, standing}
@@ -19,8 +17,7 @@ use Rattle.tag.proofs.Within.{found_by_calls}
 use Rattle.scan.proofs.Joins.{get_or-map_in}
 use Rattle.tag.specs.declared.Fields.{Fields}
 use Rattle.tag.proofs.Owed.{due_somewhere}
-use Rattle.verdict.specs.Verdicts.{nonzero, says_clean, judged, combined_guards}
-use Rattle.verdict.proofs.Quick.{guards-turn, guards_end}
+use Rattle.verdict.specs.Verdicts.{nonzero, says_clean, judged}
 use Rattle.stripe.specs.Tables.{table, span}
 use Rattle.tag.specs.Blocks.{format_at}
 use Rattle.stripe.specs.Formats.{Summary}
@@ -33,32 +30,13 @@ use Rattle.scan.specs.Steps.{held_standing, standings_held, held_guards}
 use Rattle.scan.proofs.Refusals.{refused_verdict}
 
 -- the fields of a member's tag among those held, as the code reads them
-module _ (F : Format) (m at quarter : ℕ) (tags : List ℕ) (few : m < 16) (long : length tags ≡ most_tags) (here : at ≡ F.tag_length * m) (q : quarter ≡ F.quarter) where
-  pub held-room : (at + 4 * quarter ≤ length tags) × (quarter ≤ 4)
-  held-room = (omega (arith, long, here, q, times-next F.tag_length m 16 few, F.tag_quarters, F.quarter-most), omega (arith, q, F.quarter-most))
-
+module _ (F : Format) (m at quarter : ℕ) (tags : List ℕ) (here : at ≡ F.tag_length * m) (q : quarter ≡ F.quarter) where
   pub fields-held : (f : Fields) → f.guard ≡ number_of (take quarter (drop at tags)) → f.application ≡ number_of (take quarter (drop (at + quarter) tags))
       → f.reference ≡ number_of (take (2 * quarter) (drop (at + 2 * quarter) tags)) → f ≡ found F (span (F.tag_length * m) F.tag_length tags)
   unfolding span
   fields-held f eg ea er =
       found_by_calls F tags at quarter q f.guard f.application f.reference eg ea er
       ∙ ap (λ (k : ℕ). found F (take F.tag_length (drop k tags))) here
-
--- the guards in the tags of the members, combined one after another
-module _ (F : Format) (n : ℕ) (tags : List ℕ) (guards : ℕ) where
-  pub guard-taken : (guard m : ℕ) → m < n → guard ≡ (found F (span (F.tag_length * m) F.tag_length tags)).guard
-      → bit_xor (bit_xor guards guard) (combined_guards (drop (m + 1) (held_guards F n tags))) ≡ bit_xor guards (combined_guards (drop m (held_guards F n tags)))
-  unfolding held_guards
-  guard-taken guard m h e =
-      let guardAt : ℕ → ℕ = λ m. (found F (span (F.tag_length * m) F.tag_length tags)).guard in
-      ap (λ (g : ℕ). bit_xor (bit_xor guards g) (combined_guards (drop (m + 1) (table n guardAt)))) (e ∙ sym (get_or-table n guardAt 0 m h))
-      ∙ guards-turn guards (table n guardAt) m (rw length-table h)
-
-  pub guards-taken : (m : ℕ) → n ≤ m → guards ≡ bit_xor guards (combined_guards (drop m (held_guards F n tags)))
-  unfolding held_guards
-  guards-taken m h =
-      let guardAt : ℕ → ℕ = λ m. (found F (span (F.tag_length * m) F.tag_length tags)).guard in
-      guards_end guards (table n guardAt) m (rw length-table h)
 
 -- one member, by the steps of its check
 pub held_by_steps : (a : Array) (stripe m g register : ℕ) (tags : List ℕ) → owner_refusal a stripe m ≡ 0 → (f e : Fields) (how : ℕ) → g ≡ (format_at a).guard_of register
@@ -76,7 +54,7 @@ unfolding torn_places held_summary
 torn-held F n register tag w = refl
 
 module _ (s : Scan) where
-  abbrev held_as : ℕ → ℕ
+  abbrev pub held_as : ℕ → ℕ
   held_as m = held_standing s.array s.stripe m (register_at (format_at s.array) s m) s.tag
 
   -- the loop over the members, at its end

@@ -3,7 +3,7 @@
 use mathlib.Core.Path.{◌≡◌, refl, sym, ap, ◌∙◌}
 use mathlib.Core.Bool.{Bool, true, false, not, ◌||◌, true≢false}
 use mathlib.Core.Logic.{◌↔◌}
-use Prim.Native.Nat.{ℕ, zero, suc, ◌-◌, ◌^◌, ◌≤◌}
+use Prim.Native.Nat.{ℕ, zero, suc, ◌-◌, ◌^◌, ◌≤◌, ◌<◌}
 use native.Mathlib.Omega.{arith}
 use borrow.Author.Tests.{le-leb, ltb-true, ltb-false, lt-ltb, le-ltb, eqb-true, eqb-false, eq-eqb, ne_eqb}
 use lib.Dec.{leb, ltb, eqb}
@@ -134,6 +134,10 @@ module _ (s : Scan) (member pieceBytes workBytes : ℕ) where
     where
       taken : PieceRow s member pieceBytes workBytes 0 → Accepted s member pieceBytes workBytes
       taken (done h) = h
+
+  -- its member is one of the sixteen
+  pub accepted_few : piece_refusal s member pieceBytes workBytes ≡ 0 → member < 16
+  accepted_few e = let h = accepted e in omega (arith, h.here, h.state.few)
 
 -- ---- finish: of a state with sixteen positions, as every state of the code has
 

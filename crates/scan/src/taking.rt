@@ -1,6 +1,7 @@
 // A piece of a member's block is taken in.
-ghost use Rattle.std.specs.Prelude.{◌≡◌, ℕ, ◌+◌, ◌-◌, ◌*◌, ◌^◌, ◌≤◌, ◌<◌, true, false, cond, ◌&&◌, eqb, length, get_or, set};
+ghost use Rattle.std.specs.Prelude.{◌≡◌, ℕ, ◌+◌, ◌-◌, ◌*◌, ◌≤◌, ◌<◌, true, cond, eqb, length, get_or, set};
 ghost use Rattle.std.proofs.lemmas.List.Edits.{sets};
+ghost use Rattle.refusal.specs.Refusals.{told};
 ghost use Rattle.format.specs.Formats.{piece_length};
 ghost use Rattle.format.specs.Methods.{format_of};
 ghost use Rattle.tag.specs.Blocks.{format_at};
@@ -11,100 +12,71 @@ use crate::{Scan, Taken, fit, tag_at};
 use copy::put;
 use format::{PIECE, USUAL_TAG, data_room, register_of, tag_place, value_in, waiting_in};
 use layout::Array;
+use refusal::{Refusal, demand};
+use std::array;
 use xor::least;
 
-// A flag that stays as long as something holds.
-fn still(flag: bool, holds: bool) -> bool
-    ensures { result ≡ (flag && holds) }
-{
-    if holds { flag } else { false }
-}
-
 // Whether of all sixteen positions none is past an end.
-fn none_past(at: &[u16], end: u16) -> bool
-    requires { length at.now ≡ 16 }
+fn none_past(at: &[u16; 16], end: u16) -> bool
     ensures { result ≡ true → (i : ℕ) → i < 16 → get_or at.now i 0 ≤ end }
 {
-    let mut none = true;
-    let mut i: usize = 0;
-    while i < 16 {
-        none = still(none, at[i] <= end);
-        i += 1;
-    }
-    none
+    at.iter()
+        .fold(true, |none, position| none & (*position <= end))
 }
 
 // Whether of all sixteen values none is above the most that there may be: told by the bits of all together, if they are no more than that.
-fn none_above(register: &[u32], most: u32) -> bool
-    requires { length register.now ≡ 16 }
+fn none_above(register: &[u32; 16], most: u32) -> bool
     ensures { result ≡ true → (i : ℕ) → i < 16 → get_or register.now i 0 ≤ most }
 {
-    let mut all: u32 = 0;
-    let mut i: usize = 0;
-    while i < 16 {
-        all = all | register[i];
-        i += 1;
-    }
-    all <= most
+    register.iter().fold(0, |all, value| all | *value) <= most
 }
 
 // Whether for none of all sixteen a byte waits.
-fn none_waits(waiting: &[u8]) -> bool
-    requires { length waiting.now ≡ 16 }
+fn none_waits(waiting: &[u8; 16]) -> bool
     ensures { result ≡ true → (i : ℕ) → i < 16 → get_or waiting.now i 0 ≡ 0 }
 {
-    let mut none = true;
-    let mut i: usize = 0;
-    while i < 16 {
-        none = still(none, waiting[i] == 0);
-        i += 1;
-    }
-    none
+    waiting.iter().fold(true, |none, byte| none & (*byte == 0))
 }
 
 // Whether a state is fit: at once where it can be told of all sixteen together, else by its members one by one.
-fn fit_at_once(array: Array, stripe: u64, at: &[u16], register: &[u32], waiting: &[u8]) -> bool
-    requires at_len { length at.now ≡ 16 }
-    requires register_len { length register.now ≡ 16 }
-    requires waiting_len { length waiting.now ≡ 16 }
+fn fit_at_once(
+    array: Array,
+    stripe: u64,
+    at: &[u16; 16],
+    register: &[u32; 16],
+    waiting: &[u8; 16],
+) -> bool
     ensures { result ≡ fit_by array stripe at.now register.now waiting.now }
 {
     let end = format::block_length(array.method) as u16;
     let most = format::most_value(array.method);
-    if none_past(at, end) {
-        if none_above(register, most) {
-            if none_waits(waiting) {
-                return layout::stripe_refusal(array, stripe) == 0;
-            }
-        }
+    if none_past(at, end) && none_above(register, most) && none_waits(waiting) {
+        return layout::check_stripe(array, stripe).is_ok();
     }
     fit(array, stripe, at, register, waiting)
 }
 
-// The refusal number of a piece: an unfit state, no such member, a work buffer of another length, more than the member lacks.
-fn piece_refusal(state: Scan, member: usize, count: usize, length: usize) -> u8
-    ensures { result ≡ piece_refusal state member count length }
+// Whether a piece can be taken in: the state is fit, there is such a member, the work buffer is as long as a block's data, and the piece no longer
+// than what the member lacks. The arrays are taken out of the state before they are lent or indexed: else it has to lie in memory whole.
+fn check_piece(state: Scan, member: usize, count: usize, length: usize) -> Result<(), Refusal>
+    ensures { told result ≡ piece_refusal state member count length }
 {
     let array = state.array;
-    let members = array.members;
     let at = state.at;
     let register = state.register;
     let waiting = state.waiting;
     let method = array.method;
-    if !fit_at_once(array, state.stripe, &at, &register, &waiting) {
-        return 4;
-    }
-    if member >= members {
-        return 5;
-    }
-    if length != format::data_length(method) {
-        return 6;
-    }
-    let position = at[member] as usize;
-    if count > format::block_length(method) - position {
-        return 7;
-    }
-    0
+    demand(
+        fit_at_once(array, state.stripe, &at, &register, &waiting),
+        Refusal::State,
+    )?;
+    demand(member < array.members, Refusal::Member)?;
+    demand(length == format::data_length(method), Refusal::Length)?;
+    let position = usize::from(at[member]);
+    demand(
+        count <= format::block_length(method) - position,
+        Refusal::Piece,
+    )
 }
 
 // Puts tag bytes among the tags from a place on. Most whole tags have a length that the compiler knows, and are stored at once.
@@ -129,62 +101,28 @@ fn store(method: u8, tag: &mut [u8], member: usize, position: usize, bytes: &[u8
     put_tag(tag, from, bytes);
 }
 
-// A number, or another where two places are the same.
-fn chosen(held: u16, here: u16, place: u16, value: u16) -> u16
-    ensures { result ≡ cond (eqb here place) value held }
-{
-    if here == place { value } else { held }
-}
-
 // Sixteen numbers with another at one place. Each is chosen anew: one stored alone among the others would have to be waited for when they are read
-// together. The places are compared as numbers of the same width, by a remainder where they are made so: else the compiler compares them wider.
-fn replaced(held: [u16; 16], place: u16, value: u16) -> [u16; 16]
+// together.
+fn replaced<T: Copy>(held: [T; 16], place: u16, value: T) -> [T; 16]
     ensures { result ≡ set held place value }
 {
-    let mut next = [0u16; 16];
-    let mut i: usize = 0;
-    while i < 16 {
-        next[i] = chosen(held[i], i as u16, place, value);
-        i += 1;
-    }
-    next
-}
-
-// The same of values: one, or another where two places are the same.
-fn chosen_value(held: u32, here: u32, place: u32, value: u32) -> u32
-    ensures { result ≡ cond (eqb here place) value held }
-{
-    if here == place { value } else { held }
-}
-
-// And sixteen of them.
-fn replaced_value(held: [u32; 16], place: u32, value: u32) -> [u32; 16]
-    ensures { result ≡ set held place value }
-{
-    let mut next = [0u32; 16];
-    let mut i: usize = 0;
-    while i < 16 {
-        next[i] = chosen_value(held[i], i as u32, place, value);
-        i += 1;
-    }
-    next
-}
-
-// Sixteen bytes with another at one place. Most often it stands there already, and then they are handed back as they came.
-fn replaced_byte(held: [u8; 16], place: usize, value: u8) -> [u8; 16]
-    requires { place < 16 }
-    ensures { result ≡ set held place value }
-{
-    if held[place] == value {
-        return held;
-    }
-    let mut next = held;
-    next[place] = value;
-    next
+    array::from_fn(
+        |i|
+            requires { i < 16 }
+            ensures { result ≡ cond (eqb i place) value (get_or held i value) }
+        {
+            if i == usize::from(place) {
+                value
+            } else {
+                held[i]
+            }
+        },
+    )
 }
 
 // Passes a piece on, from a position of its block on and with the guard's register there. It is cut once: bytes of data, as far as the block's data
 // go, then bytes of tag. Gives the register after it.
+// Stays: a struct of what `pass` and its two ways are handed would be made for one call and hold two buffers lent as `&mut`: no plainer.
 fn pass_on(
     method: u8,
     member: usize,
@@ -215,6 +153,7 @@ fn pass_on(
 
 // The same of a whole block of one piece of data, for which nothing was taken: nothing is cut, no number waits for the state, and the length is one
 // that the compiler knows.
+// Stays: beside `pass_on`, measured: docs/DECISIONS.md, 178.
 fn pass_whole(method: u8, member: usize, bytes: &[u8], work: &mut [u8], tag: &mut [u8]) -> u32
     requires member_bound { member < 16 }
     requires bytes_len { length bytes.now ≡ (format_of method).block_length }
@@ -249,64 +188,51 @@ fn pass(
     ensures work_after { work.new ≡ combined_from (format_of method) position work.old bytes.now }
     ensures tag_after { tag.new ≡ tags_from (format_of method) position tag.old member bytes.now }
 {
-    if format::data_length(method) == PIECE {
-        if bytes.len() == format::block_length(method) {
-            if register == format::start(method) {
-                return pass_whole(method, member, bytes, work, tag);
-            }
-        }
+    if format::data_length(method) == PIECE
+        && bytes.len() == format::block_length(method)
+        && register == format::start(method)
+    {
+        return pass_whole(method, member, bytes, work, tag);
     }
     pass_on(method, member, position, register, bytes, work, tag)
 }
 
 // Takes in a piece that nothing refuses.
+#[tactic(auto, using(crate::proofs::Rows::accepted_few))]
 fn take_in(state: Scan, member: usize, bytes: &[u8], work: &mut [u8]) -> Scan
-    requires member_bound { member < 16 }
-    requires bytes_bound { get_or state.at member 0 + length bytes.now ≤ (format_at state.array).block_length }
-    requires work_len { length work.old ≡ (format_at state.array).data_length }
-    requires member_bound_2 { get_or state.register member 0 < 256 ^ (format_at state.array).quarter }
-    requires member_value { (format_at state.array).waits (get_or state.at member 0) ≡ false → get_or state.waiting member 0 ≡ 0 }
+    requires { piece_refusal state member (length bytes.now) (length work.old) ≡ 0 }
     ensures value { result ≡ advanced state member bytes.now }
     ensures work_after { work.new ≡ buffer (format_at state.array) state.at work.old member bytes.now }
 {
-    let array = state.array;
-    let method = array.method;
+    let method = state.array.method;
     let positions = state.at;
     let values = state.register;
     let bytes_waiting = state.waiting;
     let mut tag = state.tag;
-    let position = positions[member] as usize;
-    let count = bytes.len();
+    let position = usize::from(positions[member]);
     let register = register_of(method, values[member], bytes_waiting[member]) as u32;
     let after = pass(method, member, position, register, bytes, work, &mut tag);
-    let at = replaced(
-        positions,
-        (member % 65536) as u16,
-        (position + count) as u16,
-    );
-    let value = replaced_value(
-        values,
-        (member % 4294967296) as u32,
-        value_in(method, after),
-    );
-    let waiting = replaced_byte(bytes_waiting, member, waiting_in(method, after));
+    let place = (member % 65536) as u16;
+    let at = replaced(positions, place, (position + bytes.len()) as u16);
+    let value = replaced(values, place, value_in(method, after));
+    let waiting = replaced(bytes_waiting, place, waiting_in(method, after));
     Scan {
-        array,
-        stripe: state.stripe,
         at,
         register: value,
         waiting,
         tag,
+        ..state
     }
 }
 
-// The state to go on with: as it came where this refusal number is one, else with the piece taken in.
-fn next(refusal: u8, state: Scan, member: usize, bytes: &[u8], work: &mut [u8]) -> Scan
-    requires { refusal ≡ piece_refusal state member (length bytes.now) (length work.old) }
+// The state to go on with: with the piece taken in where it can be, else as it came.
+// Stays: by itself, measured: with this test in `piece` the compiler copied the whole state once more, 2 to 5 in a hundred of a piece of 520 bytes.
+fn next(done: bool, state: Scan, member: usize, bytes: &[u8], work: &mut [u8]) -> Scan
+    requires { done ≡ eqb (piece_refusal state member (length bytes.now) (length work.old)) 0 }
     ensures value { result ≡ piece_state state member bytes.now (length work.old) }
     ensures work_after { work.new ≡ piece_work state member bytes.now work.old }
 {
-    if refusal != 0 {
+    if !done {
         return state;
     }
     take_in(state, member, bytes, work)
@@ -314,11 +240,11 @@ fn next(refusal: u8, state: Scan, member: usize, bytes: &[u8], work: &mut [u8]) 
 
 // Takes in the next bytes of a member, or hands the state back as it came where they are refused.
 pub fn piece(state: Scan, member: usize, bytes: &[u8], work: &mut [u8]) -> Taken
-    ensures refusal_value { result.refusal ≡ piece_refusal state member (length bytes.now) (length work.old) }
+    ensures refusal_value { told result.answer ≡ piece_refusal state member (length bytes.now) (length work.old) }
     ensures state_value { result.state ≡ piece_state state member bytes.now (length work.old) }
     ensures work_after { work.new ≡ piece_work state member bytes.now work.old }
 {
-    let refusal = piece_refusal(state, member, bytes.len(), work.len());
-    let state = next(refusal, state, member, bytes, work);
-    Taken { refusal, state }
+    let answer = check_piece(state, member, bytes.len(), work.len());
+    let state = next(answer.is_ok(), state, member, bytes, work);
+    Taken { answer, state }
 }

@@ -1,7 +1,8 @@
 -- Pieces that are passed: none yet, and what a fill uses of a piece behind what was passed of it. When all are passed the close ends the report
 -- of them. Assumes nothing.
-use Rattle.std.proofs.Common.{◌≡◌, ℕ, ◌+◌, ◌-◌, ◌≤◌, ◌<◌, List, [], ◌++◌, length, take, drop, refl, sym, ap, ◌∙◌, append_assoc, append-nil, arith, length-drop, take_all}
-use Rattle.std.proofs.Math.Seq.{take-add}
+use Rattle.std.proofs.Common.{◌≡◌, ℕ, ◌-◌, ◌≤◌, ◌<◌, List, [], ◌++◌, length, take, drop, refl, sym, ap, ◌∙◌, append_assoc, append-nil}
+use Rattle.std.proofs.lemmas.List.{take-append-drop}
+use Rattle.lines.proofs.Reading.{rest-is}
 use Rattle.std.proofs.lemmas.List.Edits.{sets}
 use Rattle.lines.specs.Lines.{line_room}
 use Rattle.report.specs.declared.Report.{Report}
@@ -12,16 +13,9 @@ use Rattle.report.specs.Fills.{fill_step}
 use Rattle.report.specs.Runs.{Reached, by_fill, closed}
 use Rattle.report.proofs.Storing.{written-there}
 use Rattle.report.proofs.Within.{close_fits}
-use Rattle.report.proofs.FillRuns.{filled_uses, filled_runs}
+use Rattle.report.proofs.FillRuns.{filled_runs}
 use Rattle.report.proofs.Theorem.{fill_goes_on, run-writes_the_report}
 use Rattle.scrub_report.specs.Passes.{Passes}
-
--- what is left of an input, as the code cuts it
-abbrev rest_of : List ℕ → ℕ → List ℕ
-rest_of input at = take (length input - at) (drop at input)
-
-rest-is : (input : List ℕ) (at : ℕ) → rest_of input at ≡ drop at input
-rest-is input at = take_all (length input - at) (drop at input) (rw length-drop (omega arith))
 
 pub nothing_passes : {r : Report} {w : List ℕ} → Reached r w → Passes r w [] r w []
 nothing_passes here = record { reached = here; runs = λ image text run. run }
@@ -34,24 +28,23 @@ both_pass {first = first} {second = second} {said = said} {told = told} p q = re
   runs = λ image text run. rw (append_assoc first second image, append_assoc said told text) (p.runs _ _ (q.runs image text run));
 }
 
-module _ (s : Report) (input v : List ℕ) (at : ℕ) {out v' after : List ℕ} {a : Fed} (d : Does (fill_step s (rest_of input at) v (length out)) a v' out after) where
-  -- a fill stays within the input
-  pub fill_within : at ≤ length input → at + a.used ≤ length input
-  fill_within h = let few = rw (rest-is input at, length-drop) at (filled_uses s (rest_of input at) v d) in omega arith
-
+-- a fill of what is left of a piece
+module _ (s : Report) (rest v : List ℕ) {out v' after : List ℕ} {a : Fed} (d : Does (fill_step s rest v (length out)) a v' out after) where
   -- it uses something, where there is room for a line
-  pub fill_goes : Reached s v → line_room ≤ length out → at < length input → 0 < a.used
-  fill_goes here room more =
-      let some : 0 < length (rest_of input at) = rw (rest-is input at, length-drop) (omega arith) in
-      rw d.uses (fill_goes_on here (rest_of input at) (length out) room some)
+  pub fill_goes : Reached s v → line_room ≤ length out → 0 < length rest → 0 < a.used
+  fill_goes here room some = rw d.uses (fill_goes_on here rest (length out) room some)
 
-  pub fill_passes : {r : Report} {w said : List ℕ} → Passes r w (take at input) s v said → Passes r w (take (at + a.used) input) a.state v' (said ++ take a.written after)
-  fill_passes {r} {w} {said} p =
-      let one : Passes s v (take a.used (rest_of input at)) a.state v' (take a.written after) = record {
-        reached = rw (d.leaves, d.combines) (by_fill (rest_of input at) (length out) p.reached);
-        runs = λ image text run. filled_runs s (rest_of input at) v d run;
-      } in
-      rw (take-add at a.used input, ← rest-is input at) (both_pass p one)
+  pub fill_passes : {r : Report} {w done said : List ℕ} → Passes r w done s v said
+      → Passes r w (done ++ take a.used rest) a.state v' (said ++ take a.written after)
+  fill_passes {r} {w} {done} {said} p =
+      both_pass p record {
+        reached = rw (d.leaves, d.combines) (by_fill rest (length out) p.reached);
+        runs = λ image text run. filled_runs s rest v d run;
+      }
+
+-- what is left of it then, as the code cuts it
+pub rest_of_rest : (input done rest : List ℕ) (used : ℕ) → done ++ rest ≡ input → (done ++ take used rest) ++ take (length rest - used) (drop used rest) ≡ input
+rest_of_rest input done rest used e = rw (rest-is rest used, append_assoc, take-append-drop used rest) e
 
 -- a close shows its line at the start of the buffer
 pub close_shows : (s : Report) (lines : List ℕ) {last : ℕ} {after : List ℕ} → last ≡ length (close_line s (length lines)) → after ≡ sets lines 0 (close_line s (length lines))

@@ -21,6 +21,8 @@ const INPUT: usize = 65536;
 // Room for the lines of one fill: four of the longest.
 const LINES: usize = 512;
 
+// Stays: here and below repair_image has the like over another state and two outputs; one function of both would be handed the feed, the state and what
+// is written as parameters, and be no plainer.
 // Fills the report with a piece of input until it is used up, and writes out the lines of each fill. After an error the writer may hold a beginning of
 // them, and the buffers anything.
 fn pass<W: Write>(
@@ -34,16 +36,16 @@ fn pass<W: Write>(
         × Appends (W.contents out.old) (W.contents out.new) said) }
 {
     let mut state = report;
-    let mut at: usize = 0;
-    while at < input.len() {
-        let fed = report::fill(state, &input[at..], work, lines);
+    let mut rest = input;
+    while !rest.is_empty() {
+        let fed = report::fill(state, rest, work, lines);
         out.write_all(&lines[..fed.written])?;
         state = fed.state;
         // Never so, by report's law fill_goes_on: the buffer has room for a line.
         if fed.used == 0 {
             break;
         }
-        at += fed.used;
+        rest = &rest[fed.used..];
     }
     Ok(state)
 }

@@ -3,6 +3,8 @@
 use mathlib.Core.Path.{◌≡◌, refl}
 use mathlib.Core.List.{List, [], ◌∷◌}
 use Prim.Native.Nat.{ℕ}
+use Rattle.std.proofs.Common.{Ok, Err}
+use Rattle.refusal.specs.declared.Refusal.TheVariants.{Bad}
 use Rattle.format.specs.Methods.{format_of}
 use Rattle.layout.specs.Arrays.{array_of, array_refusal, stripe_refusal, block_refusal}
 use Rattle.layout.specs.Places.{owner_refusal}
@@ -10,7 +12,7 @@ use Rattle.layout.specs.declared.Array.{Array}
 use Rattle.stripe.specs.Tables.{table, joined, span, part}
 use Rattle.stripe.specs.Jobs.{seal_refusal, serve_refusal, read_refusal, reading_numbers, rebuild_refusal, replace_refusal, update_refusal}
 use Rattle.stripe.specs.Verdicts.{scrub_refusal}
-use Rattle.stripe.specs.declared.Reading.TheVariants.{Refused, Stored, Rebuilt}
+use Rattle.stripe.specs.declared.Reading.TheVariants.{Stored, Rebuilt}
 
 -- ---- parts and blocks
 
@@ -26,7 +28,7 @@ joined_in_order = refl
 
 -- ---- which name of the code stands for which numbers of a read
 
-pub read_names : (reading_numbers Stored ≡ 1 ∷ 0 ∷ 0 ∷ []) × (reading_numbers Rebuilt ≡ 1 ∷ 0 ∷ 1 ∷ []) × (reading_numbers (Refused 9) ≡ 0 ∷ 9 ∷ 0 ∷ [])
+pub read_names : (reading_numbers (Ok Stored) ≡ 1 ∷ 0 ∷ 0 ∷ []) × (reading_numbers (Ok Rebuilt) ≡ 1 ∷ 0 ∷ 1 ∷ []) × (reading_numbers (Err Bad) ≡ 0 ∷ 9 ∷ 0 ∷ [])
 read_names = (refl, refl, refl)
 
 -- ---- refusals: first every number that is handed in is wrong, then one after the other is mended

@@ -46,23 +46,23 @@ module _ (a : Array) (stripe member : ℕ) (new bytes : List ℕ) where
   abbrev pub PartReplaces : ℕ → ℕ → List ℕ → Type 0
   PartReplaces stores number left = (number ≡ refusal_there) × (left ≡ unless_refused refusal_there (replaced_in_part a stripe member new bytes stores) bytes)
 
-  pub part_none : (stores number : ℕ) → stores ≡ 0 → number ≡ refusal_there → PartReplaces stores number bytes
-  unfolding replaced_in_part
-  part_none stores number e h = (h, rw (eq-eqb stores 0 e) (sym (either (eqb refusal_there 0))))
-    where
-      either : (t : Bool) → cond t bytes bytes ≡ bytes
-      either true = refl
-      either false = refl
+  pub part_refused-there : (stores number : ℕ) → number ≡ refusal_there → number ≢ 0 → PartReplaces stores number bytes
+  part_refused-there stores number e h = (e, rw (← e, ne_eqb number 0 h))
 
-  pub part-own : (stores number : ℕ) (left : List ℕ) → stores ≡ 1 → number ≡ refusal_there → left ≡ unless_refused refusal_there (own_written a stripe member new bytes) bytes
-      → PartReplaces stores number left
-  unfolding replaced_in_part
-  part-own stores number left e h k = (h, rw (ne_eqb stores 0 (omega arith), eq-eqb stores 1 e) k)
+  pub part_taken : (stores : ℕ) (left : List ℕ) → 0 ≡ refusal_there → left ≡ replaced_in_part a stripe member new bytes stores → PartReplaces stores 0 left
+  part_taken stores left e h = (e, rw (← e) h)
 
-  pub part-all : (stores number : ℕ) (left : List ℕ) → stores ≢ 0 → stores ≢ 1 → number ≡ refusal_there → left ≡ unless_refused refusal_there (replaced a stripe member new bytes) bytes
-      → PartReplaces stores number left
+  pub part_none : (stores : ℕ) → stores ≡ 0 → bytes ≡ replaced_in_part a stripe member new bytes stores
   unfolding replaced_in_part
-  part-all stores number left n m h k = (h, rw (ne_eqb stores 0 n, ne_eqb stores 1 m) k)
+  part_none stores e = rw (eq-eqb stores 0 e)
+
+  pub part-own : (stores : ℕ) → stores ≡ 1 → own_written a stripe member new bytes ≡ replaced_in_part a stripe member new bytes stores
+  unfolding replaced_in_part
+  part-own stores e = rw (ne_eqb stores 0 (omega arith), eq-eqb stores 1 e)
+
+  pub part-all : (stores : ℕ) → stores ≢ 0 → stores ≢ 1 → replaced a stripe member new bytes ≡ replaced_in_part a stripe member new bytes stores
+  unfolding replaced_in_part
+  part-all stores n m = rw (ne_eqb stores 0 n, ne_eqb stores 1 m)
 
 -- ---- of a block of the array
 

@@ -2,7 +2,7 @@
 use mathlib.Core.Path.{◌≡◌, refl, sym, ap, ap₂, ◌∙◌}
 use mathlib.Core.Logic.{◌≢◌}
 use mathlib.Core.List.{List, [], ◌++◌, append-nil}
-use Prim.Native.Nat.{ℕ, ◌+◌, ◌*◌, ◌≤◌, ◌<◌}
+use Prim.Native.Nat.{ℕ, ◌+◌, ◌*◌, ◌/◌, ◌≤◌, ◌<◌}
 use native.Mathlib.Decide.{dec_lt}
 use native.Mathlib.Omega.{arith}
 use lib.ListN.{length, take, drop, drop_of_length-le, take-append-drop}
@@ -19,6 +19,16 @@ use Rattle.stripe.specs.Stripes.{block_of, others_data}
 use Rattle.stripe.proofs.Blocks.{span-sets-below, span-sets_above}
 use Rattle.stripe.proofs.Parity.{others_ext}
 use Rattle.stripe.proofs.Rows.{length-span, length-others_data, span-xors, span_data}
+
+-- ---- piece by piece
+
+-- a piece ends where the next begins
+pub piece_next : (k : ℕ) → k * piece_length + piece_length ≡ (k + 1) * piece_length
+piece_next k = omega arith
+
+-- a piece of the data is within them
+pub piece_fits : (F : Format) (k : ℕ) → k < F.data_length / piece_length → k * piece_length + piece_length ≤ F.data_length
+piece_fits F k here = omega (arith, F.data_pieces)
 
 -- ---- a run put somewhere, span by span
 
@@ -65,6 +75,11 @@ piece-whole whole piece from long room = sets-whole piece (span from piece_lengt
 
 pub one_piece : (whole piece : List ℕ) → length piece ≡ piece_length → length whole ≡ piece_length → sets piece 0 (span 0 piece_length whole) ≡ whole
 one_piece whole piece long size = piece-whole whole piece 0 long (omega arith) ∙ span-all whole piece_length (omega arith)
+
+-- as the data of all others are where blocks have one piece
+pub made_piece : (F : Format) (n m : ℕ) (bytes piece made : List ℕ) → F.data_length ≡ piece_length → length piece ≡ piece_length
+    → made ≡ sets piece 0 (span 0 piece_length (others_data F n m bytes)) → made ≡ others_data F n m bytes
+made_piece F n m bytes piece made small long e = e ∙ one_piece (others_data F n m bytes) piece long (length-others_data F n m bytes ∙ small)
 
 -- ---- the first place that is not zero, looked for piece by piece
 

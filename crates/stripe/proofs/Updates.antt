@@ -29,7 +29,7 @@ use Rattle.tag.proofs.Cases.{good-guard}
 use Rattle.tag.proofs.Guards.{own_data, own_plain, carried-parity, guard-own, guard-carried}
 use Rattle.tag.proofs.Tagged.{length_data, length-tagged, tagged_by_lem}
 use Rattle.stripe.specs.Stripes.{stripe_length, block_of, stored_guard}
-use Rattle.stripe.specs.Jobs.{unless_refused, with_block, stored_good, guards_agree, replace_refusal, replaced}
+use Rattle.stripe.specs.Jobs.{with_block, stored_good, guards_agree, replace_refusal, replaced}
 use Rattle.stripe.specs.Accepted.{Replaceable}
 use Rattle.stripe.proofs.Rows.{length-span}
 use Rattle.stripe.proofs.Blocks.{data_then_tag, blocks_swap}
@@ -134,15 +134,6 @@ length_moved F parity bytes old new h =
 -- ---- the block at a place
 
 module _ (a : Array) (stripe member : ℕ) (new bytes : List ℕ) where
-  -- the refusal number of a replacement there, and what it leaves in the stripe
-  abbrev pub Replaces : ℕ → List ℕ → Type 0
-  Replaces number left =
-      (number ≡ replace_refusal a stripe member (length new) bytes)
-      × (left ≡ unless_refused (replace_refusal a stripe member (length new) bytes) (replaced a stripe member new bytes) bytes)
-
-  pub replace_refused : (number : ℕ) → number ≡ replace_refusal a stripe member (length new) bytes → number ≢ 0 → Replaces number bytes
-  replace_refused number e h = (e, rw (← e, ne_eqb number 0 h))
-
   -- the guard that a parity carries afterwards
   abbrev pub moved_guard : ℕ
   moved_guard =
@@ -170,7 +161,7 @@ module _ (a : Array) (stripe member : ℕ) (new bytes : List ℕ) where
       ∙ xor-twice (bit_xor (bit_xor (guard F of) (guard F own)) (guard F new)) (blank F))
 
   -- the parity's data and tag are written, then the member's block
-  pub replace_done : (number parity g h : ℕ) (moved half once twice : List ℕ) → owner_refusal a stripe member ≡ 0 → number ≡ replace_refusal a stripe member (length new) bytes → number ≡ 0
+  pub replace_done : (parity g h : ℕ) (moved half once twice : List ℕ) → owner_refusal a stripe member ≡ 0 → replace_refusal a stripe member (length new) bytes ≡ 0
       → member ≢ parity_member a stripe → parity ≡ parity_member a stripe
       → moved ≡ xors (xors (data_of (format_at a) (block_of (format_at a) bytes parity)) (data_of (format_at a) (block_of (format_at a) bytes member))) new
       → g ≡ guard (format_at a) new
@@ -178,11 +169,11 @@ module _ (a : Array) (stripe member : ℕ) (new bytes : List ℕ) where
       → half ≡ sets bytes ((format_at a).block_length * parity) moved
       → once ≡ sets half ((format_at a).block_length * parity + (format_at a).data_length) (tag_bytes (format_at a) (due a stripe parity h))
       → twice ≡ with_block (format_at a) once member (tagged_by a stripe member g new)
-      → Replaces 0 twice
+      → twice ≡ replaced a stripe member new bytes
   unfolding replaced
-  replace_done number parity g h moved half once twice place e z apart p m eg eh e₁ e₂ e₃ =
+  replace_done parity g h moved half once twice place e apart p m eg eh e₁ e₂ e₃ =
       let F = format_at a in
-      let r = replaceable a stripe member (length new) bytes (sym e ∙ z) in
+      let r = replaceable a stripe member (length new) bytes e in
       let there = inside-whole a stripe member (length new) bytes place r in
       let long : length moved ≡ F.data_length = ap length m ∙ length_moved F parity bytes (data_of F (block_of F bytes member)) new (rw p there.parity) in
       let first : once ≡ with_block F bytes parity (tagged a stripe parity moved_guard moved) =
@@ -193,7 +184,7 @@ module _ (a : Array) (stripe member : ℕ) (new bytes : List ℕ) where
       second ∙ ap (λ (l : List ℕ). with_block F l member (tagged a stripe member moved_guard new)) first
       ∙ blocks_swap F bytes parity member (tagged a stripe parity moved_guard moved) (tagged a stripe member moved_guard new)
       (length-tagged a stripe parity moved_guard moved long) (length-tagged a stripe member moved_guard new r.size) (λ q. apart (sym q ∙ p)) in
-      (sym z ∙ e, rw (← e, z, swapped, m, p))
+      rw (swapped, m, p)
     where
       combined : h ≡ moved_guard
       combined =
@@ -202,6 +193,6 @@ module _ (a : Array) (stripe member : ℕ) (new bytes : List ℕ) where
       by_case : (c : Bool) → (format_at a).carries ≡ c → h ≡ guard_due a stripe parity moved_guard (guard (format_at a) moved)
       by_case true c = combined ∙ sym (guard-carried a stripe parity moved_guard (guard (format_at a) moved) (carried-parity a stripe parity c p))
       by_case false c =
-          combined ∙ moved_plain c (replaceable a stripe member (length new) bytes (sym e ∙ z)) place
+          combined ∙ moved_plain c (replaceable a stripe member (length new) bytes e) place
           ∙ ap (guard (format_at a)) (ap (λ (k : ℕ). xors (xors (data_of (format_at a) (block_of (format_at a) bytes k)) (data_of (format_at a) (block_of (format_at a) bytes member))) new) (sym p) ∙ sym m)
           ∙ sym (guard-own a stripe parity moved_guard (guard (format_at a) moved) (own_plain a stripe parity c))

@@ -1,9 +1,11 @@
 -- The jobs on a whole stripe: for each its refusal number, its answer in numbers, and what every lent buffer holds afterwards.
 -- At a refusal a buffer holds what it held. Assumes nothing.
-use Rattle.std.specs.Prelude.{ℕ, ◌*◌, ◌≡◌, Bool, not, cond, ◌&&◌, List, [], ◌∷◌, eqb, length}
+use Rattle.std.specs.Prelude.{ℕ, ◌*◌, ◌≡◌, Bool, not, cond, ◌&&◌, List, [], ◌∷◌, eqb, length, Result, Ok, Err}
 use Rattle.std.specs.Int.Bits.{bit_xor}
 use Rattle.std.proofs.lemmas.List.Edits.{sets}
 use Rattle.xor.specs.Xors.{xors, combination}
+use Rattle.refusal.specs.Refusals.{number}
+use Rattle.refusal.specs.declared.Refusal.{Refusal}
 use Rattle.layout.specs.Answers.{refuse, after, answer}
 use Rattle.layout.specs.Arrays.{data_members, stripe_refusal, block_refusal}
 use Rattle.layout.specs.Places.{parity_member, stripe_of, member_of, index_at, is_parity, owner_refusal}
@@ -15,7 +17,7 @@ use Rattle.stripe.specs.Tables.{table, joined, part}
 use Rattle.verdict.specs.Verdicts.{combined_guards}
 use Rattle.stripe.specs.Stripes.{stripe_length, block_of, others_data, stored_guard, stored_guards, others_guards, recoverable}
 use Rattle.stripe.specs.declared.Reading.{Reading}
-use Rattle.stripe.specs.declared.Reading.TheVariants.{Refused, Stored, Rebuilt, Unchecked}
+use Rattle.stripe.specs.declared.Reading.TheVariants.{Stored, Rebuilt, Unchecked}
 
 -- a buffer after a call: changed where the call is done, as it was where it is refused
 abbrev pub unless_refused : ℕ → List ℕ → List ℕ → List ℕ
@@ -73,11 +75,11 @@ unfoldable pub read_numbers : Array → ℕ → List ℕ → ℕ → List ℕ
 read_numbers a block bytes outBytes =
     answer (read_refusal a block bytes outBytes) (kind_of (standing_at a (stripe_of a block) (member_of a block) (block_of (format_at a) bytes (member_of a block))) ∷ [])
 
-abbrev pub reading_numbers : Reading → List ℕ
-reading_numbers (Refused number) = 0 ∷ number ∷ 0 ∷ []
-reading_numbers Stored = 1 ∷ 0 ∷ 0 ∷ []
-reading_numbers Rebuilt = 1 ∷ 0 ∷ 1 ∷ []
-reading_numbers Unchecked = 1 ∷ 0 ∷ 2 ∷ []
+abbrev pub reading_numbers : Result Reading Refusal → List ℕ
+reading_numbers (Err refusal) = 0 ∷ number refusal ∷ 0 ∷ []
+reading_numbers (Ok Stored) = 1 ∷ 0 ∷ 0 ∷ []
+reading_numbers (Ok Rebuilt) = 1 ∷ 0 ∷ 1 ∷ []
+reading_numbers (Ok Unchecked) = 1 ∷ 0 ∷ 2 ∷ []
 
 unfoldable pub read_out : Array → ℕ → List ℕ → List ℕ → List ℕ
 read_out a block bytes old =

@@ -1,53 +1,45 @@
 // The lowest data member of a stripe whose block is not good.
-ghost use Rattle.std.specs.Prelude.{◌≡◌, length, ◌+◌, ◌*◌, ◌≤◌};
+ghost use Rattle.std.specs.Prelude.{◌≡◌, ◌<◌};
 ghost use Rattle.verdict.specs.Verdicts.{lowest};
 ghost use Rattle.stripe.specs.Tables.{table};
-ghost use Rattle.stripe.specs.Verdicts.{scrub_refusal};
 ghost use Rattle.stripe.specs.InPart.{amiss, first_amiss};
-ghost use Rattle.layout.specs.Places.{owner_refusal};
-ghost use Rattle.tag.specs.Blocks.{format_at};
 
-use crate::{is_good, scrub_refusal};
+use crate::{Held, Stripe, check_scrub};
 use layout::Array;
 
 // Whether a member holds data and its block is not good.
-fn is_amiss(array: Array, stripe: u64, bytes: &[u8], member: usize) -> bool
-    requires member_value { owner_refusal array stripe member ≡ 0 }
-    requires array_in_bounds { (format_at array).block_length * member + (format_at array).block_length ≤ length bytes.now }
-    ensures { result ≡ amiss array stripe bytes.now member }
+fn is_amiss(held: &Held, member: usize) -> bool
+    requires { member < held.now.stripe.array.members }
+    ensures { result ≡ amiss held.now.stripe.array held.now.stripe.number held.now.bytes.now member }
 {
-    let seat = layout::seat_of(array, stripe);
-    let parity = seat.parity;
-    if member == parity {
+    if member == held.stripe.seat.parity {
         return false;
     }
-    !is_good(array, stripe, seat, bytes, member)
+    !held.is_good(member)
 }
 
 // The lowest such member, or the number of members.
-fn find_amiss(array: Array, stripe: u64, bytes: &[u8]) -> usize
-    requires { scrub_refusal array stripe (length bytes.now) ≡ 0 }
-    ensures { result ≡ lowest (table array.members (amiss array stripe bytes.now)) }
+fn find_amiss(held: &Held) -> usize
+    ensures { result ≡ lowest (table held.now.stripe.array.members (amiss held.now.stripe.array held.now.stripe.number held.now.bytes.now)) }
 {
-    let members = array.members;
-    let mut member: usize = 0;
-    while member < members {
-        if is_amiss(array, stripe, bytes, member) {
+    let members = held.stripe.array.members;
+    for member in 0..members {
+        if is_amiss(held, member) {
             return member;
         }
-        member += 1;
     }
-    member
+    members
 }
 
 // The lowest data member of a stripe whose block is bad or unchecked; the number of members where there is none, or where the stripe is not
 // one of the array or has another length.
+// Stays: a number and no Option, since its promise is the definition `first_amiss`, which says the number of members where there is none.
 pub fn first_amiss(array: Array, stripe: u64, bytes: &[u8]) -> usize
     ensures { result ≡ first_amiss array stripe bytes.now }
 {
-    let members = array.members;
-    if scrub_refusal(array, stripe, bytes.len()) != 0 {
-        return members;
+    if check_scrub(array, stripe, bytes.len()).is_err() {
+        return array.members;
     }
-    find_amiss(array, stripe, bytes)
+    let stripe = Stripe::at(array, stripe);
+    find_amiss(&Held { stripe, bytes })
 }

@@ -1,8 +1,9 @@
 // A block's data replaced in its stripe.
-ghost use Rattle.std.specs.Prelude.{◌≡◌, ◌+◌, ◌*◌, ◌≤◌, length, ◌≢◌, false};
+ghost use Rattle.std.specs.Prelude.{◌≡◌, ◌+◌, ◌*◌, ◌≤◌, ◌<◌, length, ◌≢◌, false};
 ghost use Rattle.std.proofs.lemmas.List.Edits.{sets};
+ghost use Rattle.refusal.specs.Refusals.{told};
 ghost use Rattle.stripe.specs.Tables.{span};
-ghost use Rattle.layout.specs.Places.{is_parity, owner_refusal};
+ghost use Rattle.layout.specs.Places.{is_parity};
 ghost use Rattle.std.specs.Int.Bits.{bit_xor};
 ghost use Rattle.stripe.specs.Stripes.{stripe_length, block_of, stored_guard};
 ghost use Rattle.stripe.specs.Jobs.{guards_agree, replace_refusal, replaced, unless_refused, update_refusal, update_bytes};
@@ -10,50 +11,48 @@ ghost use Rattle.stripe.specs.InPart.{part_bytes};
 ghost use Rattle.stripe.specs.Steps.{own_written, replaced_in_part};
 ghost use Rattle.format.specs.Formats.{piece_length};
 ghost use Rattle.format.specs.Methods.{format_of};
-ghost use Rattle.tag.specs.Blocks.{data_of};
+ghost use Rattle.tag.specs.Blocks.{format_at, data_of};
 ghost use Rattle.xor.specs.Xors.{xors};
 
-use crate::{block_at, is_good, stored_combined, stored_guard, wide, write_block, write_tag};
+use crate::{Held, Stripe, block_at, stored_combined, stored_guard};
 use copy::put;
 use format::PIECE;
-use layout::{Array, Placed};
+use layout::Array;
+use refusal::Refusal;
 
 // Whether the guards in the tags of all members, as they stand, combine to what those of a right stripe do.
-fn guards_agree(array: Array, bytes: &[u8]) -> bool
-    requires { length bytes.now ≡ stripe_length array }
-    ensures { result ≡ guards_agree array bytes.now }
+fn guards_agree(held: &Held) -> bool
+    ensures { result ≡ guards_agree held.now.stripe.array held.now.bytes.now }
 {
-    let members = array.members;
-    let method = array.method;
-    let combined = stored_combined(method, bytes, members, members);
-    combined == wide(format::settled(method, members))
+    let members = held.stripe.array.members;
+    let method = held.stripe.array.method;
+    let combined = stored_combined(method, held.bytes, members, members);
+    combined == u64::from(format::settled(method, members))
 }
 
-// The refusal number of a replacement: the lengths, then whether the block and the parity are good, and whether the stripe's guards agree.
-fn replace_refusal(array: Array, stripe: u64, member: usize, content: usize, bytes: &[u8]) -> u8
-    requires { owner_refusal array stripe member ≡ 0 }
-    ensures { result ≡ replace_refusal array stripe member content bytes.now }
+// Whether a block can be replaced: the lengths, then whether the block and the parity are good, and whether the stripe's guards agree.
+fn check_replace(stripe: Stripe, member: usize, content: usize, bytes: &[u8]) -> Result<(), Refusal>
+    requires { member < stripe.array.members }
+    ensures { told result ≡ replace_refusal stripe.array stripe.number member content bytes.now }
 {
-    let members = array.members;
-    let method = array.method;
-    if bytes.len() != block_at(method, members) {
-        return 6;
+    let method = stripe.array.method;
+    if bytes.len() != block_at(method, stripe.array.members) {
+        return Err(Refusal::Length);
     }
     if content != format::data_length(method) {
-        return 6;
+        return Err(Refusal::Length);
     }
-    let seat = layout::seat_of(array, stripe);
-    if !is_good(array, stripe, seat, bytes, member) {
-        return 9;
+    let held = Held { stripe, bytes };
+    if !held.is_good(member) {
+        return Err(Refusal::Bad);
     }
-    let parity = seat.parity;
-    if !is_good(array, stripe, seat, bytes, parity) {
-        return 9;
+    if !held.is_good(stripe.seat.parity) {
+        return Err(Refusal::Bad);
     }
-    if !guards_agree(array, bytes) {
-        return 9;
+    if !guards_agree(&held) {
+        return Err(Refusal::Bad);
     }
-    0
+    Ok(())
 }
 
 // A piece of the parity's data, the old one of a member's combined with it, and the new one.
@@ -90,11 +89,10 @@ fn move_parity(method: u8, parity: usize, member: usize, content: &[u8], bytes: 
     let to = block_at(method, parity);
     let old = block_at(method, member);
     let mut piece = [0u8; PIECE];
-    let mut from: usize = 0;
-    while from < content.len() {
+    for k in 0..content.len() / PIECE {
+        let from = k * PIECE;
         moved_piece(bytes, to + from, old + from, content, from, &mut piece);
         put(bytes, to + from, &piece);
-        from += PIECE;
     }
 }
 
@@ -109,64 +107,53 @@ fn moved_guard(method: u8, bytes: &[u8], parity: usize, member: usize, data_guar
 }
 
 // Replaces the data of the block at a place, and brings the parity along.
-fn replace(array: Array, stripe: u64, member: usize, content: &[u8], bytes: &mut [u8]) -> u8
-    requires member_value { owner_refusal array stripe member ≡ 0 }
-    requires member_value_2 { is_parity array stripe member ≡ false }
-    ensures value { result ≡ replace_refusal array stripe member (length content.now) bytes.old }
-    ensures bytes_after { bytes.new ≡ unless_refused (replace_refusal array stripe member (length content.now) bytes.old) (replaced array stripe member content.now bytes.old) bytes.old }
+// Stays: here and in the other jobs a stripe, a member and the bytes go side by side, as the bytes are lent as `&mut` for one call alone.
+fn replace(stripe: Stripe, member: usize, content: &[u8], bytes: &mut [u8])
+    requires member_in { member < stripe.array.members }
+    requires member_of_data { is_parity stripe.array stripe.number member ≡ false }
+    requires taken { replace_refusal stripe.array stripe.number member (length content.now) bytes.old ≡ 0 }
+    ensures { bytes.new ≡ replaced stripe.array stripe.number member content.now bytes.old }
 {
-    let refusal = replace_refusal(array, stripe, member, content.len(), bytes);
-    if refusal != 0 {
-        return refusal;
-    }
-    let seat = layout::seat_of(array, stripe);
-    let parity = seat.parity;
-    let method = array.method;
-    let data_guard = format::guard(method, content) as u64;
+    let method = stripe.array.method;
+    let parity = stripe.seat.parity;
+    let data_guard = u64::from(format::guard(method, content));
     let parity_guard = moved_guard(method, bytes, parity, member, data_guard);
     move_parity(method, parity, member, content, bytes);
-    write_tag(array, stripe, seat, parity, parity_guard, bytes);
-    write_block(array, stripe, seat, member, content, data_guard, bytes);
-    0
+    stripe.write_tag(parity, parity_guard, bytes);
+    stripe.write_block(member, content, data_guard, bytes);
 }
 
 // The first of an update's two stores alone: the block with the new data.
-fn replace_own(array: Array, stripe: u64, member: usize, content: &[u8], bytes: &mut [u8]) -> u8
-    requires { owner_refusal array stripe member ≡ 0 }
-    ensures value { result ≡ replace_refusal array stripe member (length content.now) bytes.old }
-    ensures bytes_after { bytes.new ≡ unless_refused (replace_refusal array stripe member (length content.now) bytes.old) (own_written array stripe member content.now bytes.old) bytes.old }
+fn replace_own(stripe: Stripe, member: usize, content: &[u8], bytes: &mut [u8])
+    requires member_in { member < stripe.array.members }
+    requires bytes_len { length bytes.old ≡ stripe_length stripe.array }
+    requires content_len { length content.now ≡ (format_at stripe.array).data_length }
+    ensures { bytes.new ≡ own_written stripe.array stripe.number member content.now bytes.old }
 {
-    let number = replace_refusal(array, stripe, member, content.len(), bytes);
-    if number != 0 {
-        return number;
-    }
-    let seat = layout::seat_of(array, stripe);
-    let own_guard = format::guard(array.method, content) as u64;
-    write_block(array, stripe, seat, member, content, own_guard, bytes);
-    0
+    let own_guard = u64::from(format::guard(stripe.array.method, content));
+    stripe.write_block(member, content, own_guard, bytes);
 }
 
 // Replaces the data of the block at a place as far as so many of the two stores go.
 fn replace_in_part(
-    array: Array,
-    stripe: u64,
+    stripe: Stripe,
     member: usize,
     content: &[u8],
     bytes: &mut [u8],
     stores: usize,
-) -> u8
-    requires member_value { owner_refusal array stripe member ≡ 0 }
-    requires member_value_2 { is_parity array stripe member ≡ false }
-    ensures value { result ≡ replace_refusal array stripe member (length content.now) bytes.old }
-    ensures bytes_after { bytes.new ≡ unless_refused (replace_refusal array stripe member (length content.now) bytes.old) (replaced_in_part array stripe member content.now bytes.old stores) bytes.old }
+) -> Result<(), Refusal>
+    requires member_in { member < stripe.array.members }
+    requires member_of_data { is_parity stripe.array stripe.number member ≡ false }
+    ensures value { told result ≡ replace_refusal stripe.array stripe.number member (length content.now) bytes.old }
+    ensures bytes_after { bytes.new ≡ unless_refused (replace_refusal stripe.array stripe.number member (length content.now) bytes.old) (replaced_in_part stripe.array stripe.number member content.now bytes.old stores) bytes.old }
 {
-    if stores == 0 {
-        return replace_refusal(array, stripe, member, content.len(), bytes);
+    check_replace(stripe, member, content.len(), bytes)?;
+    match stores {
+        0 => {}
+        1 => replace_own(stripe, member, content, bytes),
+        _ => replace(stripe, member, content, bytes),
     }
-    if stores == 1 {
-        return replace_own(array, stripe, member, content, bytes);
-    }
-    replace(array, stripe, member, content, bytes)
+    Ok(())
 }
 
 // An update cut after so many of its two stores, the block and then the parity; two or more are the whole update.
@@ -176,22 +163,23 @@ pub fn update_in_part(
     content: &[u8],
     bytes: &mut [u8],
     stores: usize,
-) -> u8
-    ensures value { result ≡ update_refusal array block (length content.now) bytes.old }
+) -> Result<(), Refusal>
+    ensures value { told result ≡ update_refusal array block (length content.now) bytes.old }
     ensures bytes_after { bytes.new ≡ part_bytes array block content.now bytes.old stores }
 {
-    let placed = layout::place(array, block);
-    match placed {
-        Placed::Refused(number) => number,
-        Placed::At { stripe, member } => {
-            replace_in_part(array, stripe, member, content, bytes, stores)
-        }
-    }
+    let place = layout::place(array, block)?;
+    replace_in_part(
+        Stripe::at(array, place.stripe),
+        place.member,
+        content,
+        bytes,
+        stores,
+    )
 }
 
 // Updates a block of the array within its stripe.
-pub fn update(array: Array, block: u64, content: &[u8], bytes: &mut [u8]) -> u8
-    ensures value { result ≡ update_refusal array block (length content.now) bytes.old }
+pub fn update(array: Array, block: u64, content: &[u8], bytes: &mut [u8]) -> Result<(), Refusal>
+    ensures value { told result ≡ update_refusal array block (length content.now) bytes.old }
     ensures bytes_after { bytes.new ≡ update_bytes array block content.now bytes.old }
 {
     update_in_part(array, block, content, bytes, 2)

@@ -4,31 +4,28 @@
 mod high;
 mod low;
 
-ghost use Rattle.std.specs.Prelude.{◌≡◌, get_or};
+ghost use Rattle.std.specs.Prelude.{◌≡◌};
 ghost use Rattle.table.specs.Tables.{look_one, look_two, look_run};
 
 pub use high::high_table;
 pub use low::low_table;
 
-// What a table holds for a byte.
-fn look(table: &[u16; 256], byte: u8) -> u16
-    ensures { result ≡ get_or table.now byte 0 }
-{
-    table[byte as usize]
-}
-
 // What one table makes of a register and a byte.
+#[tactic(auto, unfolding(crate::specs::Tables::look_one))]
 fn one(low: &[u16; 256], register: u16, byte: u8) -> u16
     ensures { result ≡ look_one low.now register byte }
 {
-    register % 256 * 256 ^ look(low, (register / 256) as u8 ^ byte)
+    let [upper, lower] = register.to_be_bytes();
+    u16::from(lower) * 256 ^ low[usize::from(upper ^ byte)]
 }
 
 // What two tables make of a register and two bytes.
+#[tactic(auto, unfolding(crate::specs::Tables::look_two))]
 pub fn two(high: &[u16; 256], low: &[u16; 256], register: u16, first: u8, second: u8) -> u16
     ensures { result ≡ look_two high.now low.now register first second }
 {
-    look(high, (register / 256) as u8 ^ first) ^ look(low, (register % 256) as u8 ^ second)
+    let [upper, lower] = register.to_be_bytes();
+    high[usize::from(upper ^ first)] ^ low[usize::from(lower ^ second)]
 }
 
 // What they make of a register and a run of bytes, two at a time.
@@ -36,14 +33,13 @@ pub fn through(high: &[u16; 256], low: &[u16; 256], register: u16, bytes: &[u8])
     ensures { result ≡ look_run high.now low.now register bytes.now }
 {
     let mut after = register;
-    let mut i: usize = 0;
-    while 1 < bytes.len() - i {
-        after = two(high, low, after, bytes[i], bytes[i + 1]);
-        i += 2;
+    let mut left = bytes;
+    while let [first, second, rest @ ..] = left {
+        after = two(high, low, after, *first, *second);
+        left = rest;
     }
-    if i < bytes.len() {
-        one(low, after, bytes[i])
-    } else {
-        after
+    match left {
+        [last] => one(low, after, *last),
+        _ => after,
     }
 }

@@ -5,11 +5,11 @@ use mathlib.Core.Bool.{Bool, true, false, cond, ◌&&◌}
 use mathlib.Core.List.{List}
 use mathlib.Core.Logic.{◌≢◌, ◌↔◌}
 use Prim.Native.Nat.{ℕ, ◌+◌, ◌*◌, ◌/◌, ◌≤◌, ◌<◌}
-use native.Mathlib.Decide.{ℕ_discrete, dec_lt}
+use native.Mathlib.Decide.{ℕ_discrete}
 use native.Mathlib.Nat.{mul-div_cancel}
 use native.Mathlib.Omega.{arith}
-use borrow.Author.Tests.{eqb-true, eq-eqb, ne_eqb, le-leb, lt-leb, leb-true, lt-ltb, le-ltb}
-use lib.Dec.{eqb, leb, ltb}
+use borrow.Author.Tests.{eqb-true, eq-eqb, ne_eqb, le-leb, leb-true}
+use lib.Dec.{eqb, leb}
 use Rattle.format.specs.Formats.{Format, guard}
 use Rattle.format.proofs.Sizes.{scale-some}
 use Rattle.layout.specs.Places.{is_parity}
@@ -63,13 +63,6 @@ module _ (F : Format) (f e : Fields) where
 -- which of the three a number is, and its kind
 pub bad_between : (how : ℕ) → how ≢ 0 → how ≢ 8 → how ≤ 8 → is_bad how ≡ true
 bad_between how z e few = rw (le-leb 1 how (omega arith), le-leb how 7 (omega arith))
-
-pub bad-below : (how : ℕ) → how ≢ 0 → is_bad how ≡ ltb how 8
-bad-below how z = rw (le-leb 1 how (omega arith)) (by_dec (dec_lt how 8))
-  where
-    by_dec : Dec (how < 8) → leb how 7 ≡ ltb how 8
-    by_dec (yes h) = le-leb how 7 (omega arith) ∙ sym (lt-ltb how 8 h)
-    by_dec (no h) = lt-leb how 7 (omega arith) ∙ sym (le-ltb how 8 (omega arith))
 
 pub bad_range : (how : ℕ) → is_bad how ≡ true → (1 ≤ how) × (how ≤ 7)
 bad_range how h = let b = both (leb 1 how) (leb how 7) h in (leb-true 1 how b.0, leb-true how 7 b.1)

@@ -20,6 +20,7 @@ use Rattle.tag.specs.Numbers.{bytes_of, number_of}
 use Rattle.tag.specs.Blocks.{tag_of}
 use Rattle.tag.specs.Tags.{tag_bytes, found, application_due, reference_due, guard_due, due, faults, exempt, standing, expected, told, checked_numbers}
 use Rattle.tag.specs.declared.Fields.{Fields}
+use Rattle.std.specs.Prelude.{Ok}
 use Rattle.tag.specs.declared.Checked.TheVariants.{Unchecked, Told}
 use Rattle.tag.proofs.Numbers.{take_elements, number_of_two, number_of_four}
 
@@ -159,8 +160,8 @@ pub large-standing-fields : (standing (format_of 3) (fields 1 0x00070001 3) (fie
 unfolding format_of exempt standing faults
 large-standing-fields = (refl, refl, refl, refl, refl)
 
-pub check_names : (checked_numbers Unchecked ≡ 1 ∷ 0 ∷ 2 ∷ 0 ∷ 0 ∷ 0 ∷ 0 ∷ 0 ∷ 0 ∷ 0 ∷ 0 ∷ 0 ∷ [])
-    × (checked_numbers (Told (fields 5 2 3) (fields 1 2 3)) ≡ 1 ∷ 0 ∷ 1 ∷ 5 ∷ 1 ∷ 0 ∷ 2 ∷ 2 ∷ 1 ∷ 3 ∷ 3 ∷ 1 ∷ [])
+pub check_names : (checked_numbers (Ok Unchecked) ≡ 1 ∷ 0 ∷ 2 ∷ 0 ∷ 0 ∷ 0 ∷ 0 ∷ 0 ∷ 0 ∷ 0 ∷ 0 ∷ 0 ∷ [])
+    × (checked_numbers (Ok (Told (fields 5 2 3) (fields 1 2 3))) ≡ 1 ∷ 0 ∷ 1 ∷ 5 ∷ 1 ∷ 0 ∷ 2 ∷ 2 ∷ 1 ∷ 3 ∷ 3 ∷ 1 ∷ [])
 unfolding faults
 check_names = (refl, refl)
 

@@ -1,18 +1,20 @@
 -- The tag of a block: guard, application tag and reference tag, in this order; which are due at a place, and the check of a block.
 -- Assumes nothing.
-use Rattle.std.specs.Prelude.{ℕ, ◌+◌, ◌*◌, ◌/◌, ◌^◌, ◌<◌, Bool, not, cond, ◌&&◌, List, [], ◌∷◌, ◌++◌, eqb, length, take, drop, replicate}
+use Rattle.std.specs.Prelude.{ℕ, ◌+◌, ◌*◌, ◌/◌, ◌^◌, ◌<◌, Bool, not, cond, ◌&&◌, List, [], ◌∷◌, ◌++◌, eqb, length, take, drop, replicate, Option, None, Some, Result, Ok, Err}
 use Rattle.format.specs.Formats.{Format, guard, reference_of}
 use Rattle.layout.specs.Answers.{refuse, after, answer}
 use Rattle.layout.specs.Arrays.{within}
 use Rattle.layout.specs.Places.{is_parity, block_named, owner_refusal}
 use Rattle.layout.specs.declared.Array.{Array}
 use Rattle.layout.specs.declared.Owned.{Owned}
-use Rattle.layout.specs.declared.Owned.TheVariants.{Parity, Data, Refused as NoPlace}
+use Rattle.layout.specs.declared.Owned.TheVariants.{Parity, Data}
+use Rattle.refusal.specs.Refusals.{number}
+use Rattle.refusal.specs.declared.Refusal.{Refusal}
 use Rattle.tag.specs.Numbers.{bytes_of, number_of}
 use Rattle.tag.specs.Blocks.{format_at, data_of, tag_of}
 use Rattle.tag.specs.declared.Fields.{Fields}
 use Rattle.tag.specs.declared.Checked.{Checked}
-use Rattle.tag.specs.declared.Checked.TheVariants.{Refused, Unchecked, Told}
+use Rattle.tag.specs.declared.Checked.TheVariants.{Unchecked, Told}
 
 -- the bytes of three fields: a quarter of the tag is the guard's, one the application tag's, two the reference tag's
 abbrev pub bytes_by : ℕ → Fields → List ℕ
@@ -62,11 +64,11 @@ unfoldable pub due_at : Array → ℕ → ℕ → ℕ → Fields
 due_at a stripe member guard =
     cond (eqb (owner_refusal a stripe member) 0) (due a stripe member guard) (record { guard = 0; application = 0; reference = 0 })
 
--- the fields due by what lies at a place, to a parity with one guard and to every other block with another
-abbrev pub due_to : Array → ℕ → ℕ → Owned → Fields
-due_to a parity own (NoPlace number) = record { guard = 0; application = 0; reference = 0 }
-due_to a parity own (Parity lowest) = record { guard = parity; application = (0x8000 + a.volume) * (format_at a).scale; reference = reference_of (format_at a) lowest }
-due_to a parity own (Data block) = record { guard = own; application = a.volume * (format_at a).scale; reference = reference_of (format_at a) block }
+-- the fields due by what lies at a place, to a parity with one guard and to every other block with another; zeros where there is no such place
+abbrev pub due_to : Array → ℕ → ℕ → Option Owned → Fields
+due_to a parity own None = record { guard = 0; application = 0; reference = 0 }
+due_to a parity own (Some (Parity lowest)) = record { guard = parity; application = (0x8000 + a.volume) * (format_at a).scale; reference = reference_of (format_at a) lowest }
+due_to a parity own (Some (Data block)) = record { guard = own; application = a.volume * (format_at a).scale; reference = reference_of (format_at a) block }
 
 -- ---- how a block stands at a place: good, bad or unchecked
 
@@ -139,7 +141,7 @@ check_refusal a stripe member blockBytes = after (owner_refusal a stripe member)
 unfoldable pub check_numbers : Array → ℕ → ℕ → List ℕ → List ℕ
 check_numbers a stripe member block = answer (check_refusal a stripe member (length block)) (told (format_at a) (found_in a block) (expected_at a stripe member block))
 
-abbrev pub checked_numbers : Checked → List ℕ
-checked_numbers (Refused number) = 0 ∷ number ∷ replicate 10 0
-checked_numbers Unchecked = 1 ∷ 0 ∷ 2 ∷ replicate 9 0
-checked_numbers (Told f e) = 1 ∷ 0 ∷ kind_of (faults f e) ∷ side_by_side f e
+abbrev pub checked_numbers : Result Checked Refusal → List ℕ
+checked_numbers (Err refusal) = 0 ∷ number refusal ∷ replicate 10 0
+checked_numbers (Ok Unchecked) = 1 ∷ 0 ∷ 2 ∷ replicate 9 0
+checked_numbers (Ok (Told f e)) = 1 ∷ 0 ∷ kind_of (faults f e) ∷ side_by_side f e

@@ -3,11 +3,11 @@ use mathlib.Core.Path.{◌≡◌, refl}
 use mathlib.Core.Bool.{Bool, true, false}
 use mathlib.Core.List.{List, [], ◌∷◌, ◌++◌}
 use lib.ListN.{replicate}
+use Rattle.std.specs.Prelude.{Ok}
 use Rattle.verdict.specs.Verdicts.{nonzero, standing_in, judged_at, judged, verdict_numbers, quick_refusal, compared_with, quick_numbers, compared_numbers}
 use Rattle.verdict.specs.declared.Verdict.TheVariants.{Clean, Bad, Torn, Unchecked}
 use Rattle.verdict.specs.QuickWide.{quick_wide_numbers, compared_wide_numbers}
 use Rattle.verdict.specs.declared.Compared.TheVariants.{Fits, Differs}
-use Rattle.verdict.specs.declared.ComparedWide.TheVariants.{Fits as FitsWide, Differs as DiffersWide}
 use Rattle.verdict.proofs.QuickWide.{due-even, due-odd}
 
 abbrev none : List Bool
@@ -40,7 +40,7 @@ pub quick_scrubs : (quick_numbers (0x8BB7 ∷ 0x1772 ∷ 0x9CC5 ∷ []) ≡ 1 �
 unfolding quick_numbers compared_with quick_refusal
 quick_scrubs = (refl, refl, refl)
 
-pub quick_names : (compared_numbers Fits ≡ 1 ∷ 0 ∷ 0 ∷ 0 ∷ []) × (compared_numbers (Differs 7) ≡ 1 ∷ 0 ∷ 1 ∷ 7 ∷ [])
+pub quick_names : (compared_numbers (Ok Fits) ≡ 1 ∷ 0 ∷ 0 ∷ 0 ∷ []) × (compared_numbers (Ok (Differs 7)) ≡ 1 ∷ 0 ∷ 1 ∷ 7 ∷ [])
 quick_names = (refl, refl)
 
 -- four guards of thirty-two bits that combine to zero; four that combine to 7; three that combine to the guard of a block of zeros, which they
@@ -52,5 +52,5 @@ pub wide_scrubs : (quick_wide_numbers (0x12345678 ∷ 0x12345678 ∷ 5 ∷ 5 ∷
 unfolding quick_wide_numbers compared_with quick_refusal
 wide_scrubs = (rw (due-even 4 refl), rw (due-even 4 refl), rw (due-odd 3 refl), rw (due-odd 3 refl), rw (due-odd 17 refl))
 
-pub wide_names : (compared_wide_numbers FitsWide ≡ 1 ∷ 0 ∷ 0 ∷ 0 ∷ []) × (compared_wide_numbers (DiffersWide 7) ≡ 1 ∷ 0 ∷ 1 ∷ 7 ∷ [])
+pub wide_names : (compared_wide_numbers (Ok Fits) ≡ 1 ∷ 0 ∷ 0 ∷ 0 ∷ []) × (compared_wide_numbers (Ok (Differs 7)) ≡ 1 ∷ 0 ∷ 1 ∷ 7 ∷ [])
 wide_names = (refl, refl)

@@ -1,12 +1,19 @@
 -- Laws of `count` and `lowest`: how many flags hold, and which is the first that does.
 -- Assumes nothing.
-use mathlib.Core.Path.{◌≡◌, refl, sym, ap, ap₂, ◌∙◌}
-use mathlib.Core.Bool.{Bool, true, false, cond}
-use mathlib.Core.List.{List, [], ◌∷◌, ◌++◌}
-use Prim.Native.Nat.{ℕ, zero, suc, ◌+◌, ◌-◌, ◌≤◌, ◌<◌, zero-le, suc-le-suc}
+use mathlib.Core.Path.{◌≡◌, refl, sym, ap, ◌∙◌}
+use mathlib.Core.Bool.{Bool, true, false, not, cond}
+use mathlib.Core.List.{List, [], ◌∷◌, ◌++◌, map}
+use Rattle.std.specs.Prelude.{Option, Some, None}
+use Rattle.std.specs.Option.{unwrap_or}
+use Rattle.std.specs.List.{count_by, position, position_or_len}
+use Rattle.std.proofs.lemmas.List.Sums.{prefix_len-le-length}
+use borrow.Author.Tests.{ltb-true, ltb-false}
+use lib.Dec.{ltb}
+use Rattle.std.proofs.lemmas.List.Recursion.{is_count_by, is_position_or_len}
+use Prim.Native.Nat.{ℕ, zero, suc, ◌+◌, ◌≤◌, ◌<◌, zero-le, suc-le-suc}
 use native.Mathlib.Nat.{le_of_suc-le-suc, not-suc-le-zero, zero-lt-suc}
 use native.Mathlib.Omega.{arith}
-use lib.ListN.{length, get_or, drop, length-drop, drop_of_length-le}
+use lib.ListN.{length, get_or, drop, drop_of_length-le, length-map}
 use lib.Seq.{drop-cons}
 use Rattle.verdict.specs.Verdicts.{count, lowest}
 use Rattle.verdict.specs.Flags.{NoFlag, First}
@@ -39,7 +46,23 @@ count-append [] more = omega arith
 count-append (true ∷ flags) more = omega (arith, count-append flags more)
 count-append (false ∷ flags) more = count-append flags more
 
+flag-count : (flag : Bool) (flags : List Bool) → count (flag ∷ flags) ≡ cond flag (1 + count flags) (count flags)
+flag-count true flags = omega arith
+flag-count false flags = refl
+
+-- as std counts
+pub count-map : {X : Type 0} (p : X → Bool) (l : List X) → count (map p l) ≡ count_by p l
+count-map p l = is_count_by (λ xs. count (map p xs)) p refl (λ x xs. flag-count (p x) (map p xs)) l
+
 -- ---- the lowest
+
+flag-lowest : (flag : Bool) (flags : List Bool) → lowest (flag ∷ flags) ≡ cond flag 0 (1 + lowest flags)
+flag-lowest true flags = refl
+flag-lowest false flags = omega arith
+
+-- as std finds a place
+pub lowest-map : {X : Type 0} (p : X → Bool) (l : List X) → lowest (map p l) ≡ position_or_len p l
+lowest-map p l = is_position_or_len (λ xs. lowest (map p xs)) p refl (λ x xs. flag-lowest (p x) (map p xs)) l
 
 first-later : (flags : List Bool) (at : ℕ) → First flags at → First (false ∷ flags) (suc at)
 first-later flags at h =
@@ -85,6 +108,28 @@ lowest-past [] h = refl
 lowest-past (true ∷ flags) h = absurd (not-suc-le-zero h)
 lowest-past (false ∷ flags) h = lowest-past flags (le_of_suc-le-suc h)
 
+-- std's answer: the place of the first, if it is one of these
+pub place_or-length : {X : Type 0} (p : X → Bool) (l : List X) (found : Option ℕ) → found ≡ position p l → unwrap_or found (length l) ≡ lowest (map p l)
+place_or-length p l found e = ap (λ (f : Option ℕ). unwrap_or f (length l)) e ∙ by_test (ltb (position_or_len p l) (length l)) refl ∙ sym (lowest-map p l)
+  where
+    by_test : (t : Bool) → ltb (position_or_len p l) (length l) ≡ t → unwrap_or (cond t (Some (position_or_len p l)) None) (length l) ≡ position_or_len p l
+    by_test true q = refl
+    by_test false q = omega (arith, ltb-false (position_or_len p l) (length l) q, prefix_len-le-length (λ x. not (p x)) l)
+
+pub place-none : {X : Type 0} (p : X → Bool) (l : List X) → None ≡ position p l → count (map p l) ≡ 0
+place-none p l e = by_test (ltb (position_or_len p l) (length l)) refl e
+  where
+    by_test : (t : Bool) → ltb (position_or_len p l) (length l) ≡ t → None ≡ cond t (Some (position_or_len p l)) None → count (map p l) ≡ 0
+    by_test true q e = cc
+    by_test false q e = lowest-past (map p l) (omega (arith, ltb-false (position_or_len p l) (length l) q, lowest-map p l, length-map l p))
+
+pub place-some : {X : Type 0} (p : X → Bool) (l : List X) (i : ℕ) → Some i ≡ position p l → (i < length l) × (i ≡ lowest (map p l))
+place-some p l i e = by_test (ltb (position_or_len p l) (length l)) refl e
+  where
+    by_test : (t : Bool) → ltb (position_or_len p l) (length l) ≡ t → Some i ≡ cond t (Some (position_or_len p l)) None → (i < length l) × (i ≡ lowest (map p l))
+    by_test true q e = let same : i ≡ position_or_len p l = cc in (omega (arith, same, ltb-true (position_or_len p l) (length l) q), same ∙ sym (lowest-map p l))
+    by_test false q e = cc
+
 -- ---- the loop up the flags to the first that holds
 
 pub lowest_miss : (flags : List Bool) (i : ℕ) → i < length flags → get_or flags i false ≡ false → i + 1 + lowest (drop (i + 1) flags) ≡ i + lowest (drop i flags)
@@ -97,38 +142,3 @@ lowest_hit flags i h e = rw (drop-cons flags i false, e) (omega arith)
 
 pub lowest_end : (flags : List Bool) (i : ℕ) → length flags ≤ i → i ≡ i + lowest (drop i flags)
 lowest_end flags i h = rw (drop_of_length-le flags h) (omega arith)
-
--- ---- the loop down the flags: what those from a place on give
-
-pub record Passed (flags : List Bool) (from low many : ℕ) : Type 0 where
-  pub within : from ≤ length flags
-  pub lowest_is : low ≡ from + lowest (drop from flags)
-  pub count_is : many ≡ count (drop from flags)
-
-pub none_passed : (flags : List Bool) (n : ℕ) → length flags ≡ n → Passed flags n n 0
-none_passed flags n e =
-    let all : length flags ≤ n = omega arith in
-    record { within = omega arith; lowest_is = lowest_end flags n all; count_is = ap count (sym (drop_of_length-le flags all)) }
-
-below : (flags : List Bool) (i : ℕ) (flag : Bool) → 0 < i → i ≤ length flags → get_or flags (i - 1) false ≡ flag → drop (i - 1) flags ≡ flag ∷ drop i flags
-below flags i flag h l e =
-    let next : suc (i - 1) ≡ i = omega arith in
-    drop-cons flags (i - 1) false (omega arith) ∙ ap₂ (λ (f : Bool) (k : ℕ). f ∷ drop k flags) e next
-
-module _ (flags : List Bool) (i low many : ℕ) (some : 0 < i) (p : Passed flags i low many) where
-  pub passed_true : get_or flags (i - 1) false ≡ true → Passed flags (i - 1) (i - 1) (many + 1)
-  passed_true e =
-      let next = below flags i true some p.within e in
-      record { within = omega (arith, p.within); lowest_is = rw next (omega arith); count_is = rw next (omega (arith, p.count_is)) }
-
-  pub passed_false : get_or flags (i - 1) false ≡ false → Passed flags (i - 1) low many
-  passed_false e =
-      let next = below flags i false some p.within e in
-      record { within = omega (arith, p.within); lowest_is = rw next (omega (arith, p.lowest_is)); count_is = rw next p.count_is }
-
-pub passed-few : (flags : List Bool) (i low many : ℕ) → Passed flags i low many → many ≤ length flags
-passed-few flags i low many p = omega (arith, p.count_is, count_most (drop i flags), length-drop i flags)
-
-pub passed-all : (flags : List Bool) (i low many : ℕ) → i ≡ 0 → Passed flags i low many → (low ≡ lowest flags) × (many ≡ count flags)
-passed-all flags i low many e p =
-    (p.lowest_is ∙ ap (λ (k : ℕ). k + lowest (drop k flags)) e ∙ omega arith, p.count_is ∙ ap (λ (k : ℕ). count (drop k flags)) e)

@@ -12,11 +12,13 @@ use lib.Dec.{ltb, eqb}
 use lib.ListN
 use lib.ListN.{length, get_or, replicate, length-map, length-replicate, get_or-replicate}
 use lib.Seq.{ext_get_or}
+use Rattle.std.specs.Prelude.{Some, None}
+use Rattle.std.specs.List.{count_by, position}
 use Rattle.layout.specs.Arrays.{within}
 use Rattle.layout.proofs.Ranges.{within_range, range_within}
 use Rattle.verdict.specs.Verdicts.{count, lowest, nonzero, says_clean, says_bad, says_torn, says_unchecked, standing_in, bads, uncheckeds, judged_at, judged}
 use Rattle.verdict.specs.Flags.{NoFlag, First, FirstNonzero}
-use Rattle.verdict.proofs.Flags.{count_none, none-count, lowest-first, first-lowest, first_counted}
+use Rattle.verdict.proofs.Flags.{count_none, none-count, lowest-first, first-lowest, first_counted, lowest-inside, count-map, place-none, place-some}
 
 -- ---- of members, and a place found
 
@@ -207,9 +209,29 @@ module _ (least most : ℕ) (members : List ℕ) where
   unfolding standing_in
   length-standing_in = length-map members (within least most)
 
-  pub standing_in-at : (i : ℕ) → i < length members → get_or (standing_in least most members) i false ≡ within least most (get_or members i 0)
+  -- what is found of these, in std's words
+  pub none_in : None ≡ position (within least most) members → count (standing_in least most members) ≡ 0
   unfolding standing_in
-  standing_in-at i h = get_d_map (within least most) members i false 0 h
+  none_in e = place-none (within least most) members e
+
+  pub counted_in : count_by (within least most) members ≡ count (standing_in least most members)
+  unfolding standing_in
+  counted_in = sym (count-map (within least most) members)
+
+  pub record FoundIn (member : ℕ) : Type 0 where
+    pub inside : member < length members
+    pub lowest_is : member ≡ lowest (standing_in least most members)
+    pub some : 0 < count (standing_in least most members)
+
+  pub found_in : (member : ℕ) → Some member ≡ position (within least most) members → FoundIn member
+  unfolding standing_in
+  found_in member e =
+      let found = place-some (within least most) members member e in
+      record {
+        inside = found.0;
+        lowest_is = found.1;
+        some = lowest-inside (standing_in least most members) (omega (arith, found.0, found.1, length-map members (within least most)));
+      }
 
 -- a range of one number
 pub one-within : (k x : ℕ) → within k k x ≡ eqb x k

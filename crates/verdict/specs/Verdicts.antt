@@ -1,15 +1,15 @@
 -- The verdict of a scrub from how its members stand and which places are not zero, and the quick scrub of guards; each answer in
 -- numbers. Assumes nothing.
-use Rattle.std.specs.Prelude.{ℕ, suc, Bool, true, false, not, cond, List, [], ◌∷◌, map, eqb, ltb, length, get_or}
+use Rattle.std.specs.Prelude.{ℕ, suc, Bool, true, false, not, cond, List, [], ◌∷◌, map, eqb, ltb, length, get_or, Result, Ok, Err}
 use Rattle.std.specs.Int.Bits.{bit_xor}
+use Rattle.refusal.specs.Refusals.{number}
+use Rattle.refusal.specs.declared.Refusal.{Refusal}
 use Rattle.layout.specs.Answers.{refuse, answer}
 use Rattle.layout.specs.Arrays.{within}
 use Rattle.verdict.specs.declared.Verdict.{Verdict}
 use Rattle.verdict.specs.declared.Verdict.TheVariants.{Clean, Bad, Torn, Unchecked}
-use Rattle.verdict.specs.declared.Scrubbed.{Scrubbed}
-use Rattle.verdict.specs.declared.Scrubbed.TheVariants.{Refused, Found}
 use Rattle.verdict.specs.declared.Compared.{Compared}
-use Rattle.verdict.specs.declared.Compared.TheVariants.{Fits, Differs, Refused as NoGuards}
+use Rattle.verdict.specs.declared.Compared.TheVariants.{Fits, Differs}
 
 -- how many flags hold, and the place of the first that does
 abbrev pub count : List Bool → ℕ
@@ -69,9 +69,9 @@ verdict_numbers (Torn place) = says_torn place
 verdict_numbers (Unchecked member n) = says_unchecked member n
 
 -- of a scrub: refused, or done and its verdict
-abbrev pub scrubbed_numbers : Scrubbed → List ℕ
-scrubbed_numbers (Refused number) = 0 ∷ number ∷ 0 ∷ 0 ∷ 0 ∷ 0 ∷ []
-scrubbed_numbers (Found v) = 1 ∷ 0 ∷ verdict_numbers v
+abbrev pub scrubbed_numbers : Result Verdict Refusal → List ℕ
+scrubbed_numbers (Err refusal) = 0 ∷ number refusal ∷ 0 ∷ 0 ∷ 0 ∷ 0 ∷ []
+scrubbed_numbers (Ok v) = 1 ∷ 0 ∷ verdict_numbers v
 
 -- ---- the quick scrub: the stored guards alone. In numbers: 0 and 0 where they combine to what is due (fits), else 1 and what they do
 -- combine to (differs)
@@ -90,7 +90,7 @@ compared_with due guards = answer (quick_refusal (length guards)) (cond (eqb (co
 unfoldable pub quick_numbers : List ℕ → List ℕ
 quick_numbers guards = compared_with 0 guards
 
-abbrev pub compared_numbers : Compared → List ℕ
-compared_numbers (NoGuards number) = 0 ∷ number ∷ 0 ∷ 0 ∷ []
-compared_numbers Fits = 1 ∷ 0 ∷ 0 ∷ 0 ∷ []
-compared_numbers (Differs combination) = 1 ∷ 0 ∷ 1 ∷ combination ∷ []
+abbrev pub compared_numbers : Result (Compared ℕ) Refusal → List ℕ
+compared_numbers (Err refusal) = 0 ∷ number refusal ∷ 0 ∷ 0 ∷ []
+compared_numbers (Ok Fits) = 1 ∷ 0 ∷ 0 ∷ 0 ∷ []
+compared_numbers (Ok (Differs combination)) = 1 ∷ 0 ∷ 1 ∷ combination ∷ []

@@ -3,12 +3,14 @@
 ghost use Rattle.std.specs.Prelude.{◌≡◌};
 ghost use Rattle.verdict.specs.QuickWide.{wide_due, quick_wide_numbers, compared_wide_numbers};
 
-use crate::{ComparedWide, combined_wide, quick_refusal};
+use crate::{Compared, check_guards, combined_wide, compare};
+use refusal::Refusal;
 
 // The guard of a block of zeros.
 const BLANK: u32 = 0x98F94189;
 
 // What so many guards have to combine to.
+// Stays: beside `blank_if_odd` of format: by `format::settled` it would need a method's number, which guards alone have not, and be no plainer.
 fn wide_due(guards: usize) -> u32
     ensures { result ≡ wide_due guards }
 {
@@ -16,17 +18,10 @@ fn wide_due(guards: usize) -> u32
 }
 
 // The stored guards of a stripe compared: they fit where they combine to what is due.
-pub fn quick_scrub_wide(guards: &[u32]) -> ComparedWide
+pub fn quick_scrub_wide(guards: &[u32]) -> Result<Compared<u32>, Refusal>
     ensures { compared_wide_numbers result ≡ quick_wide_numbers guards.now }
 {
-    let refusal = quick_refusal(guards.len());
-    if refusal != 0 {
-        return ComparedWide::Refused(refusal);
-    }
+    check_guards(guards.len())?;
     let due = wide_due(guards.len());
-    let combination = combined_wide(guards);
-    if combination == due {
-        return ComparedWide::Fits;
-    }
-    ComparedWide::Differs { combination }
+    Ok(compare(combined_wide(guards), due))
 }

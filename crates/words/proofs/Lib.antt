@@ -3,3 +3,4 @@ pub mod Parts
 pub mod Sparse
 pub mod Steps
 pub mod Bytes
+pub mod Ored

@@ -32,3 +32,6 @@ four_rows_on = sparse by_four_rows 36 1024 (lit≤ tt) refl refl refl
 pub six_rows_on : (v w : ℕ) → v < 2 ^ 64 → rest (bit_xor (act by_six_rows v) w) ≡ after 1536 (rest v) (rest w)
 unfolding on feed bit_step
 six_rows_on = sparse by_six_rows 43 1536 (lit≤ tt) refl refl refl
+
+-- all of them, by which the check proves the steps of the code
+pub ruleset steps = (word_on, two_words-on, row_on, two_rows_on, four_rows_on, six_rows_on)

@@ -1,5 +1,5 @@
 // Words of 64 bits modulo the generator: each step moves one on by a fixed number of bits with a few shifts, and adds another.
-#![tactic(auto)]
+#![tactic(auto, using(crate::proofs::Steps::steps))]
 
 ghost use Rattle.std.specs.Prelude.{◌≡◌};
 ghost use Rattle.words.specs.Words.{rest, after, act};
@@ -72,15 +72,9 @@ pub fn joined(first: u64, second: u64, third: u64, fourth: u64) -> u64
 }
 
 // A word with its bytes in the other order.
+#[tactic(auto, using(crate::proofs::Bytes::turns))]
 pub fn turned(v: u64) -> u64
     ensures { result ≡ act turning v }
 {
-    v >> 56
-        | (v >> 48) % 256 << 8
-        | (v >> 40) % 256 << 16
-        | (v >> 32) % 256 << 24
-        | (v >> 24) % 256 << 32
-        | (v >> 16) % 256 << 40
-        | (v >> 8) % 256 << 48
-        | v % 256 << 56
+    v.swap_bytes()
 }

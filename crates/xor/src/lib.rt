@@ -8,11 +8,8 @@ ghost use Rattle.xor.specs.Xors.{xors};
 pub fn xor_into(dst: &mut [u8], src: &[u8])
     ensures { dst.new ≡ xors dst.old src.now }
 {
-    let shorter = least(dst.len(), src.len());
-    let mut i: usize = 0;
-    while i < shorter {
-        dst[i] = dst[i] ^ src[i];
-        i += 1;
+    for i in 0..least(dst.len(), src.len()) {
+        dst[i] ^= src[i];
     }
 }
 
@@ -20,5 +17,5 @@ pub fn xor_into(dst: &mut [u8], src: &[u8])
 pub fn least(a: usize, b: usize) -> usize
     ensures { result ≡ min a b }
 {
-    if a < b { a } else { b }
+    a.min(b)
 }

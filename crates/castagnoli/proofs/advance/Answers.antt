@@ -12,4 +12,4 @@ pub returns : goal.returns
 returns c =
     let a = c.args in
     c.through.ensures ∙ ap₂ (λ (h l : List ℕ). look_run h l a.register a.bytes.now) c.first_table-first.ensures c.last_table-last.ensures
-    ∙ advance_by_tables a.register a.bytes.now (λ k. omega (arith, c.shared_slice_known-1.given k))
+    ∙ advance_by_tables a.register a.bytes.now (λ k. omega (arith, c.type_inv.bytes k))

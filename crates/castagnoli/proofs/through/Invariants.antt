@@ -1,13 +1,12 @@
 -- `castagnoli::through` meets its contract. The invariant: the bytes still to come, from the register now, give what all give from the first.
 -- Assumes nothing.
 use mathlib.Core.Path.{◌≡◌}
-use Prim.Native.Nat.{◌-◌, ◌≤◌}
-use lib.ListN.{length, drop}
+use lib.ListN.{length}
 use Rattle.castagnoli.specs.Tables.{look_run}
 use Rattle.castagnoli.proofs.through.Given as goal
 
-abbrev pub invariant-loop-i : goal.invariant-loop-i
-invariant-loop-i l = (l.i ≤ length l.bytes) × (look_run l.first l.last l.after (drop l.i l.bytes) ≡ look_run l.first l.last l.register l.bytes)
+abbrev pub invariant-loop-left : goal.invariant-loop-left
+invariant-loop-left l = look_run l.first l.last l.after l.left ≡ look_run l.first l.last l.register l.bytes
 
-abbrev pub decreases-loop-i : goal.decreases-loop-i
-decreases-loop-i l = length l.bytes - l.i
+abbrev pub decreases-loop-left : goal.decreases-loop-left
+decreases-loop-left l = length l.left

@@ -1,5 +1,5 @@
 -- `checksum::block` meets its contract. Assumes nothing.
-use mathlib.Core.Path.{ap, ◌∙◌}
+use mathlib.Core.Path.{ap, ap₂, ◌∙◌}
 use mathlib.Core.List.{List}
 use Prim.Native.Nat.{ℕ, ◌+◌}
 use native.Mathlib.Omega.{arith}
@@ -11,7 +11,6 @@ use Rattle.checksum.proofs.block.Goals as goal
 pub returns : goal.returns
 returns c =
     let a = c.args in
-    let known = c.shared_slice_known-1 in
     c.reduce.ensures
-    ∙ ap (λ (x : ℕ). reduced (a.sum + x)) (c.weight.ensures.0 ∙ ap (λ (l : List ℕ). made 0 (pairs l)) c.lanes-lanes.ensures)
-    ∙ lanes_sums a.sum a.bytes.now (omega arith) (omega arith) (λ k. omega (arith, known.given k))
+    ∙ ap₂ (λ (s x : ℕ). reduced (s + x)) c.from.ensures (c.weight.ensures.0 ∙ ap (λ (l : List ℕ). made 0 (pairs l)) c.lanes-lanes.ensures)
+    ∙ lanes_sums a.sum a.bytes.now (omega arith) (omega arith) c.fits-bytes

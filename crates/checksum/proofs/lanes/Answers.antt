@@ -1,24 +1,20 @@
--- `checksum::lanes` meets its contract. The invariant: the lanes found, and those still to come, are all. Assumes nothing.
-use mathlib.Core.Path.{refl, sym, ◌∙◌}
+-- `checksum::lanes` meets its contract. Assumes nothing.
+use mathlib.Core.Path.{◌≡◌, refl, sym, ◌∙◌}
+use Prim.Native.Nat.{◌<◌}
 use native.Mathlib.Omega.{arith}
-use lib.ListN.{length-set}
-use Rattle.checksum.proofs.Columns.{lanes_turn, lanes_end}
+use borrow.Author.Rules.{rules}
+use Rattle.std.proofs.lemmas.Grind.{same_number_lists}
+use Rattle.checksum.specs.Lanes.{stack, lanes_of}
+use Rattle.checksum.proofs.Made.{all-made}
+use Rattle.checksum.proofs.Columns.{length-lanes_of, lanes_of-at}
 use Rattle.checksum.proofs.lanes.Goals as goal
-
-pub loop-k-init : goal.loop-k-init
-loop-k-init c = (omega arith, refl, refl)
-
-pub loop-k-preserved : goal.loop-k-preserved
-loop-k-preserved c =
-    let at = c.loop-k in
-    let bytes = c.args.bytes.now in
-    let v = c.lane.result in (
-      omega arith,
-      length-set at.out at.k v ∙ at.invariant.1,
-      lanes_turn at.out bytes 32 at.k v (omega arith) (omega arith) c.lane.ensures ∙ at.invariant.2,
-    )
 
 pub returns : goal.returns
 returns c =
-    let at = c.loop-k in
-    sym (lanes_end at.out c.args.bytes.now 32 at.k at.invariant.1 (omega arith)) ∙ at.invariant.2
+    let bytes = c.args.bytes in
+    let out = c.from_fn.result in
+    let made = c.from_fn.ensures.items in
+    same_number_lists out (lanes_of 32 bytes.now 0) (made.long ∙ sym (length-lanes_of 32 bytes.now 0)) (λ k h.
+    let below : k < 32 = omega (arith, made.long) in
+    all-made _ (λ p. p.0 ≡ bytes) (λ i y. y ≡ stack 16 bytes.now i) (λ p i y q same called. (called.met.1 ∙ same, search rules)) out _ 32 refl made.each k below
+    ∙ sym (lanes_of-at 32 bytes.now k below))

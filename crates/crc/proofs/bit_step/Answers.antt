@@ -9,11 +9,6 @@ use Rattle.crc.specs.Crc.{bit_step}
 use Rattle.crc.specs.Guard.{generator}
 use Rattle.crc.proofs.bit_step.Goals as goal
 
-pub overflow_mul-result : goal.overflow_mul-result
-overflow_mul-result c =
-    let few : bit_xor (c.args.register / 32768) c.args.bit < 2 = xor_lt 1 (c.args.register / 32768) c.args.bit (omega arith) c.requires in
-    omega arith
-
 pub returns : goal.returns
 unfolding bit_step
 returns c =

@@ -7,7 +7,7 @@ ghost use Rattle.words.specs.Words.{rest};
 ghost use Rattle.nibbles.specs.Nibbles.{nibbles};
 
 use crate::added;
-use crate::lanes::{lanes_alone, lead};
+use crate::lanes::{lanes, lead};
 pub use many::guards;
 use words::past_word;
 
@@ -24,7 +24,7 @@ fn block(register: u16, bytes: &[u8]) -> u16
     requires { length bytes.now ≡ 512 }
     ensures { result ≡ run register bytes.now }
 {
-    let words = lanes_alone(register, bytes);
+    let words = lanes(register, bytes);
     let joined = words::joined(words[0], words[1], words[2], words[3]);
     let tables = nibbles::nibble_table();
     end(&tables, joined)
@@ -43,21 +43,21 @@ fn by_tables(register: u16, bytes: &[u8]) -> u16
 fn left_of(v: u16) -> u16
     ensures { result ≡ rest v }
 {
-    nibbles::left(v as u64)
+    nibbles::left(u64::from(v))
 }
 
 // The register after two bytes: they are added to it.
 fn past_two(register: u16, first: u8, second: u8) -> u16
     ensures { result ≡ run register (first ∷ second ∷ []) }
 {
-    left_of(register ^ (first as u16 * 256 + second as u16))
+    left_of(register ^ u16::from_be_bytes([first, second]))
 }
 
 // The register after one byte: its high half meets the byte, its low half moves up.
 fn past_one(register: u16, byte: u8) -> u16
     ensures { result ≡ run register (byte ∷ []) }
 {
-    register % 256 * 256 ^ left_of(register / 256 ^ byte as u16)
+    register % 256 * 256 ^ left_of(register / 256 ^ u16::from(byte))
 }
 
 // The register after a few bytes, two at a time and without a table, which would have to be made first.
@@ -65,15 +65,14 @@ fn by_few(register: u16, bytes: &[u8]) -> u16
     ensures { result ≡ run register bytes.now }
 {
     let mut after = register;
-    let mut i: usize = 0;
-    while 1 < bytes.len() - i {
-        after = past_two(after, bytes[i], bytes[i + 1]);
-        i += 2;
+    let mut rest = bytes;
+    while let Some(([first, second], more)) = rest.split_first_chunk::<2>() {
+        after = past_two(after, *first, *second);
+        rest = more;
     }
-    if i < bytes.len() {
-        past_one(after, bytes[i])
-    } else {
-        after
+    match rest.first() {
+        Some(last) => past_one(after, *last),
+        None => after,
     }
 }
 
@@ -83,12 +82,11 @@ fn by_words(register: u16, bytes: &[u8]) -> u16
     ensures { result ≡ run register bytes.now }
 {
     let mut word = added(bytes, 0, lead(register));
-    let mut at: usize = 8;
-    while 7 < bytes.len() - at {
-        word = past_word(word, added(bytes, at, 0));
-        at += 8;
+    let (words, rest) = bytes[8..].as_chunks::<8>();
+    for next in words {
+        word = past_word(word, added(next, 0, 0));
     }
-    by_few(nibbles::left(word), &bytes[at..])
+    by_few(nibbles::left(word), rest)
 }
 
 // The register after a run of bytes.

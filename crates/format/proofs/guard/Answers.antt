@@ -1,20 +1,20 @@
 -- `format::guard` meets its contract. Assumes nothing.
 use mathlib.Core.Path.{sym, ap, ◌∙◌}
 use Rattle.format.specs.Formats.{Format, guard}
-use Rattle.format.proofs.Laws.{of_two, of_three, of_other, guard-t10, guard-checksummed, guard_large}
+use Rattle.format.proofs.Laws.{guard-t10, guard-checksummed, guard_large}
 use Rattle.format.proofs.guard.Goals as goal
 
-pub returns-then-method-eq-CHECKSUM : goal.returns-then-method-eq-CHECKSUM
-returns-then-method-eq-CHECKSUM c =
+pub returns-in-Crc : goal.returns-in-Crc
+returns-in-Crc c =
     let l = c.args.bytes.now in
-    c.checksum.ensures ∙ sym (ap (λ (F : Format). guard F l) (of_two _ c.if-method-eq-CHECKSUM.true) ∙ guard-checksummed l)
+    c.from.ensures ∙ c.guard.ensures ∙ sym (guard-t10 l) ∙ ap (λ (F : Format). guard F l) c.in-Crc.ensures
 
-pub returns-then-method-eq-LARGE : goal.returns-then-method-eq-LARGE
-returns-then-method-eq-LARGE c =
+pub returns-in-Checksum : goal.returns-in-Checksum
+returns-in-Checksum c =
     let l = c.args.bytes.now in
-    c.crc32c.ensures ∙ sym (ap (λ (F : Format). guard F l) (of_three _ c.if-method-eq-LARGE.true) ∙ guard_large l)
+    c.from-in-Checksum.ensures ∙ c.checksum.ensures ∙ sym (guard-checksummed l) ∙ ap (λ (F : Format). guard F l) c.in-Checksum.ensures
 
-pub returns : goal.returns
-returns c =
+pub returns-in-Large : goal.returns-in-Large
+returns-in-Large c =
     let l = c.args.bytes.now in
-    c.guard.ensures ∙ sym (ap (λ (F : Format). guard F l) (of_other _ c.if-method-eq-CHECKSUM.false c.if-method-eq-LARGE.false) ∙ guard-t10 l)
+    c.crc32c.ensures ∙ sym (guard_large l) ∙ ap (λ (F : Format). guard F l) c.in-Large.ensures

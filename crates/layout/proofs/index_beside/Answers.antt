@@ -6,4 +6,4 @@ pub returns-then-member-parity : goal.returns-then-member-parity
 returns-then-member-parity c = rw (lt-ltb _ _ c.if-member-parity.true)
 
 pub returns-else-member-parity : goal.returns-else-member-parity
-returns-else-member-parity c = rw (le-ltb _ _ c.if-member-parity.false) c.one_less.ensures
+returns-else-member-parity c = rw (le-ltb _ _ c.if-member-parity.false) c.saturating_sub.ensures

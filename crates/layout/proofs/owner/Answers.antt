@@ -1,17 +1,19 @@
 -- `owner` answers `owner_numbers`: told by what its stripe is found by. Assumes nothing.
-use Rattle.std.proofs.Common.{sym, ◌∙◌}
-use Rattle.layout.proofs.Numbers.{owner_refused}
+use Rattle.std.proofs.Common.{[], ◌∷◌, sym, ◌∙◌}
+use Rattle.std.proofs.lemmas.Result.{err_from_is_err_and}
+use Rattle.layout.specs.Places.{owner_numbers}
+use Rattle.layout.proofs.Answers.{answer_reason}
 use Rattle.layout.proofs.Seats.{beside_owner}
 use Rattle.layout.proofs.owner.Goals as goal
 
-pub returns-then-refusal-ne0 : goal.returns-then-refusal-ne0
-returns-then-refusal-ne0 c =
-    let a = c.args in
-    let e = c.owner_refusal-refusal.ensures in
-    rw (e, owner_refused a.array a.stripe a.member (rw e at c.if-refusal-ne0.true))
+pub returns-in_err-check_place : goal.returns-in_err-check_place
+unfolding owner_numbers
+returns-in_err-check_place c =
+    let p = err_from_is_err_and c.from_residual.result c.from_residual.ensures.1 in
+    rw (p.1, p.2) (answer_reason _ _ (_ ∷ _ ∷ []) c.in_err-check_place.ensures)
 
 pub returns : goal.returns
 returns c =
     let a = c.args in
     c.owner_beside.ensures
-    ∙ beside_owner a.array a.stripe a.member (sym c.owner_refusal-refusal.ensures ∙ c.if-refusal-ne0.false) c.seat_of.result c.seat_of.ensures
+    ∙ beside_owner a.array a.stripe a.member (sym c.in_ok-check_place.ensures) c.seat_of.result c.seat_of.ensures

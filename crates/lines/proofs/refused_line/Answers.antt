@@ -1,14 +1,12 @@
--- `lines::refused_line` meets its contract. Assumes nothing.
-use native.Mathlib.Omega.{arith}
 use Rattle.lines.specs.Lines.{refused_line}
 use Rattle.lines.specs.Text.{refused_word}
-use Rattle.lines.proofs.Lines.{none_written, fits-there}
-use Rattle.lines.proofs.Texts.{text_behind}
+use Rattle.lines.proofs.Lines.{refused_line-fits}
 use Rattle.lines.proofs.refused_line.Goals as goal
 
-pub returns-then-out-lt-ROOM : goal.returns-then-out-lt-ROOM
-returns-then-out-lt-ROOM c = none_written _ _ (omega arith)
+pub write-requires : goal.write-requires
+unfolding refused_line refused_word
+write-requires c = refused_line-fits c.from.result
 
 pub returns : goal.returns
 unfolding refused_line refused_word
-returns c = fits-there c.if-out-lt-ROOM.false (text_behind c.word_and_number-line.ensures.written c.put.ensures)
+returns c = rw c.from.ensures at c.write.ensures

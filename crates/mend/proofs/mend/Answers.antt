@@ -1,22 +1,20 @@
 -- `mend::mend` meets its contract. Assumes nothing.
+use Rattle.std.proofs.Common.{◌∙◌}
 use Rattle.mend.proofs.Deciding.{no_line, line_same, found_mends, found-lists, refused_stays, refused_unlisted}
-use mathlib.Core.Path.{◌∙◌}
 use Rattle.mend.proofs.mend.Goals as goal
 
-pub returns-in-Refused : goal.returns-in-Refused
-returns-in-Refused c =
+pub returns-in-Err : goal.returns-in-Err
+returns-in-Err c =
     let a = c.args in
-    let told = c.scrub-scrubbed.ensures in
-    let is = c.in-Refused.is in record {
-      bytes_after = refused_stays a.array a.stripe a.bytes.now told is;
-      written = line_same (refused_unlisted a.array a.stripe a.bytes.now told is) (no_line a.list.now);
+    let told = c.in-Err.ensures in record {
+      bytes_after = refused_stays a.array a.stripe a.bytes.now _ told;
+      written = line_same (refused_unlisted a.array a.stripe a.bytes.now _ told) (no_line a.list.now);
     }
 
-pub returns-in-Found : goal.returns-in-Found
-returns-in-Found c =
+pub returns-in-Ok : goal.returns-in-Ok
+returns-in-Ok c =
     let a = c.args in
-    let told = c.scrub-scrubbed.ensures in
-    let is = c.in-Found.is in record {
-      bytes_after = c.mend_by.ensures.bytes_after ∙ found_mends a.array a.stripe a.bytes.now told is;
-      written = line_same (found-lists a.array a.stripe a.bytes.now told is) c.mend_by.ensures.written;
+    let told = c.in-Ok.ensures in record {
+      bytes_after = c.mend_by.ensures.bytes_after ∙ found_mends a.array a.stripe a.bytes.now _ told;
+      written = line_same (found-lists a.array a.stripe a.bytes.now _ told) c.mend_by.ensures.written;
     }

@@ -1,5 +1,5 @@
 -- `mend::mend_by` meets its contract, verdict by verdict. Assumes nothing.
-use Rattle.mend.proofs.Deciding.{no_line, line_same, clean_stays, clean_unlisted, bad_rebuilds, bad-listed, torn_stays, torn-listed, unchecked_stays, unchecked-listed}
+use Rattle.mend.proofs.Deciding.{no_line, line_same, clean_stays, clean_unlisted, bad_rebuilds, bad-listed, left_stays, left-listed}
 use mathlib.Core.Path.{◌∙◌}
 use Rattle.mend.proofs.mend_by.Goals as goal
 
@@ -23,14 +23,6 @@ pub returns-in-Unchecked : goal.returns-in-Unchecked
 returns-in-Unchecked c =
     let a = c.args in
     let is = c.in-Unchecked.is in record {
-      bytes_after = unchecked_stays a.array a.stripe a.bytes.now is;
-      written = line_same (unchecked-listed a.array a.stripe a.bytes.now is) c.stripe_line.ensures;
-    }
-
-pub returns-in-Torn : goal.returns-in-Torn
-returns-in-Torn c =
-    let a = c.args in
-    let is = c.in-Torn.is in record {
-      bytes_after = torn_stays a.array a.stripe a.bytes.now is;
-      written = line_same (torn-listed a.array a.stripe a.bytes.now is) c.stripe_line-in-Torn.ensures;
+      bytes_after = left_stays a.array a.stripe a.bytes.now a.verdict is;
+      written = line_same (left-listed a.array a.stripe a.bytes.now a.verdict is) c.stripe_line.ensures;
     }

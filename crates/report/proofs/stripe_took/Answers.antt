@@ -20,18 +20,15 @@ pub returns-then-now-stripe_length : goal.returns-then-now-stripe_length
 returns-then-now-stripe_length c =
     let a = c.args in
     still_short a.report a.bytes.now a.work.now c.whole_blocks-member.ensures c.stripe_length.ensures c.take_in-next.ensures.value
-    c.take_in-next.ensures.work_after c.stripe_held-held.ensures c.if-now-stripe_length.true
+    c.take_in-next.ensures.work_after c.holding-held.ensures c.if-now-stripe_length.true
 
 pub stripe_whole-requires : goal.stripe_whole-requires
 stripe_whole-requires c =
-    let r = c.args.report in record {
-      line_room_in_bounds = omega arith;
-      torn_bound = held_small r c.stripe_held-held.result _ _ c.args.bytes.now _ _ (fit-known r c.requires.report_value)
-          c.take_in-next.ensures.value c.stripe_held-held.ensures;
-    }
+    let r = c.args.report in
+    held_small r c.holding-held.result _ _ c.args.bytes.now _ _ (fit-known r c.requires.report_value) c.take_in-next.ensures.value c.holding-held.ensures
 
 pub returns : goal.returns
 returns c =
     let a = c.args in
     now_whole a.report a.bytes.now a.work.now c.whole_blocks-member.ensures c.stripe_length.ensures c.take_in-next.ensures.value
-    c.take_in-next.ensures.work_after c.stripe_held-held.ensures c.if-now-stripe_length.false c.stripe_whole.ensures
+    c.take_in-next.ensures.work_after c.holding-held.ensures c.if-now-stripe_length.false c.stripe_whole.ensures

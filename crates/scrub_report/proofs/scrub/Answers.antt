@@ -5,7 +5,7 @@ use Rattle.std.proofs.Math.Nat.{le_trans}
 use Rattle.std.proofs.lemmas.Result.{on_ok_weaker}
 use Rattle.report.specs.Runs.{begun}
 use Rattle.scrub_report.proofs.Passing.{nothing_passes, both_pass, all_passed}
-use Rattle.scrub_report.proofs.Reading.{gave_all, gave_many}
+use Rattle.lines.proofs.Reading.{gave_all, gave_many}
 use Rattle.scrub_report.proofs.scrub.Goals as goal
 use Rattle.scrub_report.proofs.scrub.Goals.{else-loop-test, then-loop-test+in_ok-count+then-count-eq0}
 

@@ -1,92 +1,48 @@
 -- `stripe::make_data` meets its contract. The invariant: the pieces put so far are those of the combination, which does not look at where they are put.
 -- Assumes nothing.
-use mathlib.Core.Path.{◌≡◌, refl, sym, ap, ap₂, ◌∙◌}
+use mathlib.Core.Path.{◌≡◌, sym, ap, ap₂, ◌∙◌}
 use mathlib.Core.List.{List}
 use Prim.Native.Nat.{ℕ, ◌+◌, ◌*◌, ◌≤◌}
 use native.Mathlib.Omega.{arith}
 use lib.ListN.{length}
-use lib.Seq.{sets, length-sets}
+use lib.Seq.{sets}
 use Rattle.format.specs.Formats.{piece_length}
 use Rattle.format.specs.Methods.{format_of}
-use Rattle.format.proofs.Sizes.{times-next}
 use Rattle.stripe.specs.Tables.{span}
 use Rattle.stripe.specs.Stripes.{others_data}
-use Rattle.stripe.proofs.Pieces.{span_none, span-all, put_next, piece-whole, others_same}
-use Rattle.stripe.proofs.Rows.{length-span, length-others_data}
+use Rattle.stripe.proofs.Pieces.{piece_next, piece_fits, span_none, span-all, put_next, piece-whole, others_same}
+use Rattle.stripe.proofs.Rows.{length-others_data}
 use Rattle.stripe.proofs.make_data.Goals as goal
 
-pub block_at-to-requires : goal.block_at-to-requires
-block_at-to-requires c = omega (arith, times-next (format_of c.args.method).block_length c.args.member c.args.members c.requires.member_lt_members)
-
-pub loop-from-init : goal.loop-from-init
-loop-from-init c =
+pub loop-k-init : goal.loop-k-init
+loop-k-init c =
     let a = c.args in
     let F = format_of a.method in
-    (omega arith, refl, refl, ap (sets a.bytes.now (F.block_length * a.member)) (sym (span_none 0 (others_data F a.members a.member a.bytes.now))))
+    ap (sets a.bytes.now (F.block_length * a.member)) (sym (span_none 0 (others_data F a.members a.member a.bytes.now)))
 
-pub combined-requires : goal.combined-requires
-combined-requires c =
-    let fits : c.loop-from.from + piece_length ≤ (format_of c.args.method).data_length = let F = format_of c.args.method in omega (arith, F.data_pieces) in
-    let as_long : length c.loop-from.bytes ≡ length c.args.bytes.now = let at = c.loop-from in
-    let a = c.args in
-    let F = format_of a.method in
-    ap length at.invariant.3 ∙ length-sets a.bytes.now (F.block_length * a.member) (span 0 at.from (others_data F a.members a.member a.bytes.now)) in
-    record {
-      members_in_bounds = omega (arith, as_long, c.requires.members_in_bounds);
-      piece_length_bound = fits;
-      piece_length_in_bounds = omega (arith, c.loop-from.invariant.2);
-    }
-
-pub overflow_add-to : goal.overflow_add-to
-overflow_add-to c =
-    let fits : c.loop-from.from + piece_length ≤ (format_of c.args.method).data_length = let F = format_of c.args.method in omega (arith, F.data_pieces) in
-    let F = format_of c.args.method in
-    omega (arith, fits, c.block_at-to.ensures, F.block_parts, c.requires.members_in_bounds, times-next F.block_length c.args.member c.args.members c.requires.member_lt_members)
-
-pub overflow_add-from : goal.overflow_add-from
-overflow_add-from c =
-    let fits : c.loop-from.from + piece_length ≤ (format_of c.args.method).data_length = let F = format_of c.args.method in omega (arith, F.data_pieces) in
-    omega (arith, fits, (format_of c.args.method).data_most)
-
-pub loop-from-smaller : goal.loop-from-smaller
-loop-from-smaller c =
-    let fits : c.loop-from.from + piece_length ≤ (format_of c.args.method).data_length = let F = format_of c.args.method in omega (arith, F.data_pieces) in
-    omega (arith, fits)
-
-pub loop-from-preserved : goal.loop-from-preserved
-loop-from-preserved c =
-    let fits : c.loop-from.from + piece_length ≤ (format_of c.args.method).data_length = let F = format_of c.args.method in omega (arith, F.data_pieces) in
-    let at = c.loop-from in
+pub loop-k-preserved : goal.loop-k-preserved
+loop-k-preserved c =
     let a = c.args in
     let F = format_of a.method in
     let whole = others_data F a.members a.member a.bytes.now in
-    let long = length-others_data F a.members a.member a.bytes.now in
-    let room : at.from + piece_length ≤ length whole = omega (arith, fits, long) in
+    let place = F.block_length * a.member in
+    let at = c.loop-k.k * piece_length in
     let piece = c.combined.new.out in
-    let made : piece ≡ span at.from piece_length whole =
+    let fits : at + piece_length ≤ F.data_length = piece_fits F c.loop-k.k (omega arith) in
+    let room : at + piece_length ≤ length whole = omega (arith, length-others_data F a.members a.member a.bytes.now) in
+    let made : piece ≡ span at piece_length whole =
     c.combined.ensures
-    ∙ ap (λ (l : List ℕ). sets at.piece 0 (span at.from piece_length l)) (others_same F a.members a.member at.from a.bytes.now at.bytes at.invariant.0 at.invariant.3)
-    ∙ piece-whole whole at.piece at.from at.invariant.2 room in (
-      fits,
-      omega (arith, at.invariant.1),
-      ap length made ∙ length-span at.from piece_length whole room,
-      c.put.ensures
-          ∙ ap₂ (λ (l : List ℕ) (to : ℕ). sets l (to + at.from) piece) at.invariant.3 c.block_at-to.ensures
-          ∙ ap (sets (sets a.bytes.now (F.block_length * a.member) (span 0 at.from whole)) (F.block_length * a.member + at.from)) made
-          ∙ put_next whole a.bytes.now (F.block_length * a.member) at.from piece_length (omega (arith, at.invariant.0, long)),
-    )
-
-pub shape_of-bytes : goal.shape_of-bytes
-shape_of-bytes c =
-    let at = c.loop-from in
-    let a = c.args in
-    let F = format_of a.method in
-    ap length at.invariant.3 ∙ length-sets a.bytes.now (F.block_length * a.member) (span 0 at.from (others_data F a.members a.member a.bytes.now))
+    ∙ ap (λ (l : List ℕ). sets c.loop-k.piece 0 (span at piece_length l)) (others_same F a.members a.member at a.bytes.now c.loop-k.bytes (omega arith) c.loop-k.invariant)
+    ∙ piece-whole whole c.loop-k.piece at c.loop-k-test.array_long room in
+    c.put.ensures
+    ∙ ap₂ (λ (l : List ℕ) (to : ℕ). sets l (to + at) piece) c.loop-k.invariant c.block_at-to.ensures
+    ∙ ap (sets (sets a.bytes.now place (span 0 at whole)) (place + at)) made
+    ∙ put_next whole a.bytes.now place at piece_length (omega arith)
+    ∙ ap (λ (n : ℕ). sets a.bytes.now place (span 0 n whole)) (piece_next c.loop-k.k)
 
 pub returns : goal.returns
 returns c =
-    let at = c.loop-from in
     let a = c.args in
     let F = format_of a.method in
     let whole = others_data F a.members a.member a.bytes.now in
-    at.invariant.3 ∙ ap (sets a.bytes.now (F.block_length * a.member)) (span-all whole at.from (omega (arith, length-others_data F a.members a.member a.bytes.now)))
+    c.loop-k.invariant ∙ ap (sets a.bytes.now (F.block_length * a.member)) (span-all whole (c.loop-k.k * piece_length) (omega (arith, F.data_pieces, length-others_data F a.members a.member a.bytes.now)))

@@ -1,20 +1,9 @@
 -- `stripe::stored` meets its contract. Assumes nothing.
 use mathlib.Core.Path.{ap₂}
 use Prim.Native.Nat.{ℕ, ◌+◌}
-use native.Mathlib.Omega.{arith}
 use Rattle.format.specs.Methods.{format_of}
 use Rattle.stripe.proofs.Checked.{stored_there}
 use Rattle.stripe.proofs.stored.Goals as goal
-
-pub overflow_add-at : goal.overflow_add-at
-overflow_add-at c = let F = format_of c.args.method in omega arith
-
-pub fields_at-requires : goal.fields_at-requires
-fields_at-requires c =
-    let F = format_of c.args.method in record {
-      quarter_in_bounds = omega (arith, F.block_parts, F.tag_quarters, c.block_at.ensures, c.data_length.ensures, c.quarter.ensures);
-      quarter_bound = omega (arith, F.quarter-most, c.quarter.ensures);
-    }
 
 pub returns : goal.returns
 returns c =

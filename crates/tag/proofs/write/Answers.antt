@@ -1,12 +1,6 @@
 -- `tag::write` meets its contract. Assumes nothing.
-use Rattle.tag.proofs.Within.{written-at-once, written_by_fields}
+use Rattle.tag.proofs.Within.{written_by_fields}
 use Rattle.tag.proofs.write.Goals as goal
-
-pub returns-then-quarter-eq2 : goal.returns-then-quarter-eq2
-returns-then-quarter-eq2 c =
-    let a = c.args in
-    written-at-once a.bytes.now a.at a.quarter a.fields c.if-quarter-eq2.true c.eight_bytes-tag.result c.put.new.dst
-    c.eight_bytes-tag.ensures c.put.ensures
 
 pub returns : goal.returns
 returns c =

@@ -2,14 +2,11 @@
 -- Assumes nothing.
 use mathlib.Core.Path.{sym, ◌∙◌}
 use native.Mathlib.Omega.{arith}
-use lib.ListN.{length-set}
 use Rattle.xor.proofs.Lists.{xors-turn, xors_end}
 use Rattle.xor.proofs.xor_into.Goals as goal
 
 pub loop-i-preserved : goal.loop-i-preserved
-loop-i-preserved c =
-    let at = c.loop-i in
-    (simp length-set at.invariant.0, simp length-set at.invariant.1, xors-turn _ _ at.i (omega arith) (omega arith) ∙ at.invariant.2)
+loop-i-preserved c = let at = c.loop-i in xors-turn _ _ at.i (omega arith) (omega arith) ∙ at.invariant
 
 pub returns : goal.returns
-returns c = let at = c.loop-i in sym (xors_end _ _ at.i (omega arith)) ∙ at.invariant.2
+returns c = let at = c.loop-i in sym (xors_end _ _ at.i (omega arith)) ∙ at.invariant

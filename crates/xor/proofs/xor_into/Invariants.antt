@@ -2,13 +2,9 @@
 -- Assumes nothing.
 use mathlib.Core.Path.{◌≡◌}
 use mathlib.Core.List.{◌++◌}
-use Prim.Native.Nat.{◌-◌, min}
-use lib.ListN.{length, take, drop}
+use lib.ListN.{take, drop}
 use Rattle.xor.specs.Xors.{xors}
 use Rattle.xor.proofs.xor_into.Given as goal
 
 abbrev pub invariant-loop-i : goal.invariant-loop-i
-invariant-loop-i l = (length l.dst ≡ length l.initial.dst) × (l.shorter ≡ min (length l.dst) (length l.src)) × (take l.i l.dst ++ xors (drop l.i l.dst) (drop l.i l.src) ≡ xors l.initial.dst l.src)
-
-abbrev pub decreases-loop-i : goal.decreases-loop-i
-decreases-loop-i l = l.shorter - l.i
+invariant-loop-i l = take l.i l.dst ++ xors (drop l.i l.dst) (drop l.i l.src) ≡ xors l.initial.dst l.src

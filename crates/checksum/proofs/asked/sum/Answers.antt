@@ -9,4 +9,4 @@ pub returns-then-bytes-ne0 : goal.returns-then-bytes-ne0
 returns-then-bytes-ne0 c = sym (sum_odd c.args.bytes.now c.if-bytes-ne0.true)
 
 pub returns : goal.returns
-returns c = ap (λ (g : ℕ). 1 ∷ 0 ∷ g ∷ []) c.checksum-guard.ensures ∙ sym (sum_even c.args.bytes.now c.if-bytes-ne0.false)
+returns c = ap (λ (g : ℕ). 1 ∷ 0 ∷ g ∷ []) c.checksum.ensures ∙ sym (sum_even c.args.bytes.now c.if-bytes-ne0.false)

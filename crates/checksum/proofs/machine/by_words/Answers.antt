@@ -1,34 +1,27 @@
--- `checksum::machine::by_words` meets its contract. The invariant: what is left, from the register now, gives what all gives from the first.
--- Assumes nothing.
-use mathlib.Core.Path.{refl, ap, ◌∙◌}
-use Prim.Native.Nat.{ℕ, ◌+◌}
+-- `checksum::machine::by_words` meets its contract. Assumes nothing.
+use mathlib.Core.Path.{ap, ◌∙◌}
 use native.Mathlib.Omega.{arith}
-use lib.ListN.{drop}
 use Rattle.checksum.specs.Machine.{register_of, advance}
-use Rattle.checksum.proofs.Joined.{advance-turn, advance-last, advance-none}
+use Rattle.checksum.proofs.Joined.{advance-two, advance-last, advance-empty}
 use Rattle.checksum.proofs.machine.by_words.Goals as goal
 
-pub loop-i-init : goal.loop-i-init
-loop-i-init c = (omega arith, refl, refl)
+pub loop-high-preserved : goal.loop-high-preserved
+loop-high-preserved c =
+    let l = c.loop-high in
+    let cut = c.in-Some.ensures.cases in
+    let v = c.take_word-value.result in
+    ap (advance 0 (register_of v 0)) cut.1
+    ∙ advance-two (register_of l.value l.waiting) l.rest.now c.in-Some.field-0-0.now v (omega (arith, cut.2)) cut.0 c.take_word-value.ensures
+    ∙ l.invariant
 
-pub loop-i-preserved : goal.loop-i-preserved
-loop-i-preserved c =
-    let at = c.loop-i in
-    let bytes = c.args.bytes.now in (
-      omega arith,
-      omega arith,
-      ap (λ (s : ℕ). advance (at.i + 2) (register_of s 0) (drop (at.i + 2) bytes)) c.take_word-value.ensures
-          ∙ advance-turn (register_of at.value at.waiting) bytes at.i at.invariant.1 (omega arith) ∙ at.invariant.2,
-    )
+pub returns-in-Some-first : goal.returns-in-Some-first
+returns-in-Some-first c =
+    let l = c.loop-high in
+    let item = c.in-Some-first.ensures.item in
+    advance-last (register_of l.value l.waiting) l.rest.now c.in-Some-first.last.now item.3.0 (omega (arith, c.in_default.ensures.cases)) (item.3.1 0) (omega arith)
+    ∙ l.invariant
 
-pub returns-then-i-bytes : goal.returns-then-i-bytes
-returns-then-i-bytes c =
-    let at = c.loop-i in
-    let bytes = c.args.bytes.now in
-    advance-last (register_of at.value at.waiting) bytes at.i at.invariant.1 (omega arith) (omega (arith, c.shared_slice_known-then-i-bytes-1.given at.i)) ∙ at.invariant.2
-
-pub returns-else-i-bytes : goal.returns-else-i-bytes
-returns-else-i-bytes c =
-    let at = c.loop-i in
-    let bytes = c.args.bytes.now in
-    advance-none (register_of at.value at.waiting) bytes at.i (omega arith) ∙ at.invariant.2
+pub returns-in_default-first : goal.returns-in_default-first
+returns-in_default-first c =
+    let l = c.loop-high in
+    advance-empty 0 (register_of l.value l.waiting) l.rest.now (omega (arith, c.in_default-first.ensures.item.3)) ∙ l.invariant

@@ -1,13 +1,12 @@
 -- `checksum::machine::by_words` meets its contract. The invariant: what is left, from the register now, gives what all gives from the first.
 -- Assumes nothing.
 use mathlib.Core.Path.{◌≡◌}
-use Prim.Native.Nat.{◌-◌, ◌%◌, ◌≤◌}
-use lib.ListN.{length, drop}
+use lib.ListN.{length}
 use Rattle.checksum.specs.Machine.{register_of, advance}
 use Rattle.checksum.proofs.machine.by_words.Given as goal
 
-abbrev pub invariant-loop-i : goal.invariant-loop-i
-invariant-loop-i l = (l.i ≤ length l.bytes) × (l.i % 2 ≡ 0) × (advance l.i (register_of l.value l.waiting) (drop l.i l.bytes) ≡ advance 0 (register_of l.sum l.before) l.bytes)
+abbrev pub invariant-loop-high : goal.invariant-loop-high
+invariant-loop-high l = advance 0 (register_of l.value l.waiting) l.rest ≡ advance 0 (register_of l.sum l.before) l.bytes
 
-abbrev pub decreases-loop-i : goal.decreases-loop-i
-decreases-loop-i l = length l.bytes - l.i
+abbrev pub decreases-loop-high : goal.decreases-loop-high
+decreases-loop-high l = length l.rest

@@ -2,23 +2,22 @@
 -- the first. Assumes nothing.
 use mathlib.Core.Path.{◌≡◌}
 use mathlib.Core.List.{List}
-use Prim.Native.Nat.{ℕ, ◌-◌, ◌%◌, ◌≤◌}
-use lib.ListN.{length, drop}
+use Prim.Native.Nat.{ℕ}
+use lib.ListN.{length}
 use Rattle.checksum.specs.Machine.{register_of, advance}
 use Rattle.checksum.proofs.machine.from_even.Given as goal
 
-abbrev pub Left : ℕ → ℕ → List ℕ → ℕ → ℕ → ℕ → Type 0
-Left sum before bytes value waiting i =
-    (i ≤ length bytes) × (i % 2 ≡ 0) × (advance i (register_of value waiting) (drop i bytes) ≡ advance 0 (register_of sum before) bytes)
+abbrev pub Left : ℕ → ℕ → List ℕ → ℕ → ℕ → List ℕ → Type 0
+Left sum before bytes value waiting rest = advance 0 (register_of value waiting) rest ≡ advance 0 (register_of sum before) bytes
 
-abbrev pub invariant-loop-i : goal.invariant-loop-i
-invariant-loop-i l = Left l.sum l.before l.bytes l.value l.waiting l.i
+abbrev pub invariant-loop-first : goal.invariant-loop-first
+invariant-loop-first l = Left l.sum l.before l.bytes l.value l.waiting l.rest
 
-abbrev pub decreases-loop-i : goal.decreases-loop-i
-decreases-loop-i l = length l.bytes - l.i
+abbrev pub decreases-loop-first : goal.decreases-loop-first
+decreases-loop-first l = length l.rest
 
-abbrev pub invariant-loop-i-2 : goal.invariant-loop-i-2
-invariant-loop-i-2 l = Left l.sum l.before l.bytes l.value l.waiting l.i
+abbrev pub invariant-loop-first-2 : goal.invariant-loop-first-2
+invariant-loop-first-2 l = Left l.sum l.before l.bytes l.value l.waiting l.rest
 
-abbrev pub decreases-loop-i-2 : goal.decreases-loop-i-2
-decreases-loop-i-2 l = length l.bytes - l.i
+abbrev pub decreases-loop-first-2 : goal.decreases-loop-first-2
+decreases-loop-first-2 l = length l.rest

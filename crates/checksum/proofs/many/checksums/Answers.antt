@@ -1,38 +1,41 @@
--- `checksum::many::checksums` meets its contract. The invariant: the checksums found, and those of the runs still to come, are all.
--- Assumes nothing.
+-- `checksum::many::checksums` meets its contract. Assumes nothing.
 use mathlib.Core.Path.{refl, sym, ap, ◌∙◌}
+use mathlib.Core.List.{List, ◌++◌}
+use Prim.Native.Nat.{ℕ, ◌+◌, ◌-◌}
 use native.Mathlib.Omega.{arith}
-use lib.ListN.{length, drop, length-set}
+use lib.ListN.{take, set, length-set}
+use Rattle.std.proofs.lemmas.List.{set-get_or}
 use Rattle.checksum.specs.Checksum.{checksum}
-use Rattle.checksum.proofs.Strides.{run_at, checksums_turn, checksums_end, rest-turn, rest_end, step_within}
+use Rattle.checksum.specs.Many.{checksums_of}
+use Rattle.checksum.proofs.Strides.{stride_on, run_of, checksums_turn, checksums_end, rest-turn, rest_end}
 use Rattle.checksum.proofs.many.checksums.Goals as goal
 
-pub loop-m-init : goal.loop-m-init
-loop-m-init c = (omega arith, omega arith, refl, refl, refl)
+pub loop-guard-init : goal.loop-guard-init
+loop-guard-init c = (refl, refl, refl)
 
-pub returns-then-left-eq0 : goal.returns-then-left-eq0
-returns-then-left-eq0 c =
-    let at = c.loop-m in
-    let a = c.args in
-    sym (rest_end at.out a.bytes.now a.stride 16 at.m at.at (omega arith) at.invariant.3) ∙ at.invariant.4
-
-pub loop-m-preserved : goal.loop-m-preserved
-loop-m-preserved c =
-    let at = c.loop-m in
-    let a = c.args in
-    let bytes = a.bytes.now in
+pub loop-guard-preserved : goal.loop-guard-preserved
+loop-guard-preserved c =
+    let l = c.loop-guard in
+    let inv = l.invariant in
+    let m = l.guard-index in
+    let out = l.guard-items in
+    let rest = l.rest.now in
+    let stride = c.args.stride in
     let g = c.checksum.result in (
-      omega arith,
-      step_within at.at (length bytes) a.stride c.least-at.result at.invariant.1 c.least-at.ensures,
-      length-set at.out at.m g ∙ at.invariant.2,
-      rest-turn at.out 16 at.m g (omega arith) at.invariant.3,
-      checksums_turn at.out bytes a.stride 16 at.m at.at c.least-at.result g (omega arith) (omega arith) c.least-at.ensures
-          (c.checksum.ensures ∙ ap checksum (run_at bytes at.at 512 c.least.result c.least.ensures))
-          ∙ at.invariant.4,
+      length-set out m g ∙ inv.0,
+      rest-turn out 16 m g (omega arith) inv.1,
+      ap (λ (x : List ℕ). take (m + 1) (set out m g) ++ checksums_of (16 - (m + 1)) stride x) (stride_on rest stride c.min-in-loop-guard.result c.min-in-loop-guard.ensures)
+          ∙ checksums_turn out rest stride 16 m g (omega arith) (omega arith) (c.checksum.ensures ∙ ap checksum (run_of rest 512 c.min.result c.min.ensures))
+          ∙ inv.2,
     )
 
-pub returns : goal.returns
-returns c =
-    let at = c.loop-m in
-    let a = c.args in
-    sym (checksums_end at.out (drop at.at a.bytes.now) a.stride 16 at.m at.invariant.2 (omega arith)) ∙ at.invariant.4
+pub returns-then-is_empty : goal.returns-then-is_empty
+returns-then-is_empty c =
+    let l = c.loop-guard in
+    let inv = l.invariant in
+    set-get_or l.guard-items l.guard-index 0 ∙ sym (rest_end l.guard-items l.rest.now c.args.stride 16 l.guard-index (grind (arith, c.is_empty.ensures, c.if-is_empty.true)) inv.1) ∙ inv.2
+
+pub returns-after-loop-guard : goal.returns-after-loop-guard
+returns-after-loop-guard c =
+    let l = c.loop-guard in
+    sym (checksums_end l.guard-items l.rest.now c.args.stride 16 l.guard-index l.invariant.0 (omega arith)) ∙ l.invariant.2

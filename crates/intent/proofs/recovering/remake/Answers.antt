@@ -3,15 +3,16 @@ use mathlib.Core.Path.{refl, sym, ap, ◌∙◌}
 use mathlib.Core.List.{[], ◌∷◌}
 use Prim.Native.Nat.{ℕ}
 use native.Mathlib.Numerals.{add-one}
+use Rattle.refusal.proofs.Passing.{number-some}
 use Rattle.stripe.specs.InPart.{first_amiss}
 use Rattle.intent.specs.Records.{written}
 use Rattle.intent.proofs.Calling.{remade-done, remade-not}
 use Rattle.intent.proofs.recovering.remake.Goals as goal
 
-pub returns-then-rebuild-ne0 : goal.returns-then-rebuild-ne0
-returns-then-rebuild-ne0 c =
+pub returns-in-Err : goal.returns-in-Err
+returns-in-Err c =
     let a = c.args in
-    let not_made = remade-not a.array a.stripe c.parity_member-parity.result a.bytes.now c.requires.bytes_value c.parity_member-parity.ensures (λ e. c.if-rebuild-ne0.true (c.rebuild.ensures.value ∙ e)) in
+    let not_made = remade-not a.array a.stripe c.parity_member-parity.result a.bytes.now c.requires.bytes_value c.parity_member-parity.ensures (λ e. number-some _ (c.in-Err.ensures.value ∙ e)) in
     let same = c.rebuild.ensures.bytes_after ∙ not_made.1 in
     let off = not_made.0 in record {
       result_value = rw off (ap (λ (m : ℕ). 1 ∷ 0 ∷ 2 ∷ m ∷ []) (c.first_amiss.ensures ∙ ap (first_amiss a.array a.stripe) same));
@@ -20,16 +21,12 @@ returns-then-rebuild-ne0 c =
     }
 
 pub rewrite-requires : goal.rewrite-requires
-rewrite-requires c =
-    record {
-      log_len = c.requires.log_len;
-      nonzero = rw (add-one c.args.stripe) c.requires.nonzero;
-    }
+rewrite-requires c = rw (add-one c.args.stripe) c.requires.nonzero
 
-pub returns : goal.returns
-returns c =
+pub returns-in-Ok : goal.returns-in-Ok
+returns-in-Ok c =
     let a = c.args in
-    let made = remade-done a.array a.stripe c.parity_member-parity.result a.bytes.now c.requires.bytes_value c.parity_member-parity.ensures (sym c.rebuild.ensures.value ∙ c.if-rebuild-ne0.false) in
+    let made = remade-done a.array a.stripe c.parity_member-parity.result a.bytes.now c.requires.bytes_value c.parity_member-parity.ensures (sym c.in-Ok.ensures.value) in
     let on = made.0 in record {
       result_value = rw on refl;
       bytes_after = rw on (c.rebuild.ensures.bytes_after ∙ made.1);

@@ -1,16 +1,16 @@
 -- `repair::feeding::feed` meets its contract. The invariant is `Filled`; each step that uses something leads on, and the one that uses nothing is
 -- the last. The measure is what is left of the input. Assumes nothing.
-use mathlib.Core.Path.{◌≡◌}
-use Prim.Native.Nat.{◌-◌}
-use lib.ListN.{length}
+use Rattle.std.proofs.Common.{◌≡◌, ◌-◌, length}
 use Rattle.repair.specs.Feeds.{feed_of}
 use Rattle.repair.proofs.Filled.{Filled}
 use Rattle.repair.proofs.feeding.feed.Given as goal
 
-abbrev pub invariant-loop-used : goal.invariant-loop-used
-invariant-loop-used l =
-    Filled (feed_of l.initial.repair l.input l.initial.held (length l.initial.image) (length l.initial.list)) l.input l.initial.image l.initial.list l.repair l.held l.image l.list l.at l.written l.listed × (length l.held ≡ length l.initial.held)
-    × (length l.image ≡ length l.initial.image) × (length l.list ≡ length l.initial.list)
+abbrev pub invariant-loop-all : goal.invariant-loop-all
+invariant-loop-all l = record {
+  filled : Filled (feed_of l.fn.state l.input l.initial.held (length l.initial.image) (length l.initial.list)) l.input l.initial.image l.initial.list l.all.state l.held l.image l.list l.all.used l.all.written l.all.listed;
+  image_kept : length l.image ≡ length l.initial.image;
+  list_kept : length l.list ≡ length l.initial.list;
+}
 
-abbrev pub decreases-loop-used : goal.decreases-loop-used
-decreases-loop-used l = length l.input - l.at
+abbrev pub decreases-loop-all : goal.decreases-loop-all
+decreases-loop-all l = length l.input - l.all.used

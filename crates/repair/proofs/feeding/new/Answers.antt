@@ -6,4 +6,4 @@ use Rattle.repair.proofs.feeding.new.Goals as goal
 
 pub returns : goal.returns
 unfolding fresh_repair
-returns c = c.entering.ensures ∙ ap (λ (a : Array). entering 0 a 0) c.no_array-array.ensures
+returns c = c.entering.ensures ∙ ap (λ (a : Array). entering 0 a 0) c.no_array.ensures

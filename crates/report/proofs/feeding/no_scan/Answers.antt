@@ -18,4 +18,4 @@ unfolding start_state
 none_started size = either (eqb (start_refusal no_array 0 size) 0) (empty_scan no_array 0)
 
 pub returns : goal.returns
-returns c = c.start-refused.ensures.state_value ∙ ap (λ (a : Array). start_state a 0 1) c.no_array.ensures ∙ none_started 1
+returns c = c.start.ensures.state_value ∙ ap (λ (a : Array). start_state a 0 1) c.no_array.ensures ∙ none_started 1

@@ -1,14 +1,14 @@
--- `report::fills::fill` meets its contract. The invariant is `Filled`; each call that uses something leads on, and the one that uses nothing
--- is the last. The measure is what is left of the input. Assumes nothing.
-use mathlib.Core.Path.{◌≡◌}
-use Prim.Native.Nat.{◌-◌}
-use lib.ListN.{length}
+-- The invariant is `Filled`. The measure is what is left of the input.
+use Rattle.std.proofs.Common.{◌≡◌, ◌-◌, length}
 use Rattle.report.specs.Fills.{fill_step}
 use Rattle.report.proofs.Filled.{Filled}
 use Rattle.report.proofs.fills.fill.Given as goal
 
-abbrev pub invariant-loop-used : goal.invariant-loop-used
-invariant-loop-used l = Filled (fill_step l.initial.report l.input l.initial.work (length l.initial.out)) l.input l.initial.out l.report l.work l.out l.at l.filled × (length l.work ≡ length l.initial.work)
+abbrev pub invariant-loop-filled : goal.invariant-loop-filled
+invariant-loop-filled l = record {
+  filled : Filled (fill_step l.fn.state l.input l.initial.work (length l.initial.out)) l.input l.initial.out l.filled.state l.work l.out l.filled.used l.filled.written;
+  long : length l.work ≡ length l.initial.work;
+}
 
-abbrev pub decreases-loop-used : goal.decreases-loop-used
-decreases-loop-used l = length l.input - l.at
+abbrev pub decreases-loop-filled : goal.decreases-loop-filled
+decreases-loop-filled l = length l.input - l.filled.used

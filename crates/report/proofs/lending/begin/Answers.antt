@@ -17,7 +17,7 @@ returns c =
     let w = a.work.now in
     let end = c.front_end-end.result in
     let lent = front-lent d end w c.front_end-end.ensures in record {
-      value = c.start-begun.ensures.state_value ∙ ap (λ (front : List ℕ). start_state a.array a.stripe (length front)) lent;
-      work_after = front-back d end w c.front_end-end.ensures c.start-begun.new.work (search rules)
-          ∙ ap (sets w 0) (c.start-begun.ensures.work_after ∙ ap (start_work a.array a.stripe) lent);
+      value = c.start.ensures.state_value ∙ ap (λ (front : List ℕ). start_state a.array a.stripe (length front)) lent;
+      work_after = front-back d end w c.front_end-end.ensures c.start.new.work (search rules)
+          ∙ ap (sets w 0) (c.start.ensures.work_after ∙ ap (start_work a.array a.stripe) lent);
     }

@@ -17,7 +17,7 @@ returns c =
     let w = a.work.now in
     let end = c.front_end-end.result in
     let lent = front-lent d end w c.front_end-end.ensures in record {
-      value = c.piece-taken.ensures.state_value ∙ ap (λ (front : List ℕ). piece_state a.scan a.member a.bytes.now (length front)) lent;
-      work_after = front-back d end w c.front_end-end.ensures c.piece-taken.new.work (search rules)
-          ∙ ap (sets w 0) (c.piece-taken.ensures.work_after ∙ ap (piece_work a.scan a.member a.bytes.now) lent);
+      value = c.piece.ensures.state_value ∙ ap (λ (front : List ℕ). piece_state a.scan a.member a.bytes.now (length front)) lent;
+      work_after = front-back d end w c.front_end-end.ensures c.piece.new.work (search rules)
+          ∙ ap (sets w 0) (c.piece.ensures.work_after ∙ ap (piece_work a.scan a.member a.bytes.now) lent);
     }

@@ -11,4 +11,4 @@ pub returns : goal.returns
 unfolding empty_scan
 returns c =
     let a = c.args in
-    ap (λ (x : ℕ). record { array = a.array; stripe = a.stripe; at = replicate 16 0; register = replicate 16 x; waiting = replicate 16 0; tag = replicate most_tags 0 }) c.start-first.ensures
+    ap (λ (x : ℕ). record { array = a.array; stripe = a.stripe; at = replicate 16 0; register = replicate 16 x; waiting = replicate 16 0; tag = replicate most_tags 0 }) c.start.ensures

@@ -1,23 +1,23 @@
--- `scan::taking::none_past` meets its contract. The invariant: as long as the flag stands, none of those passed is past the end. Assumes nothing.
+-- `scan::taking::none_past` meets its contract. Assumes nothing.
+use mathlib.Core.Path.{refl, sym, ◌∙◌}
+use mathlib.Core.Bool.{Bool, true, ◌&&◌}
 use Prim.Native.Nat.{ℕ}
 use native.Mathlib.Omega.{arith}
 use borrow.Author.Tests.{leb-true}
 use lib.Dec.{leb}
 use lib.ListN.{get_or}
-use Rattle.scan.proofs.Replacing.{still_all}
+use Rattle.std.proofs.Common.{rules, tests}
+use Rattle.std.specs.List.{list_all}
+use Rattle.std.proofs.lemmas.Iterator.{YieldsList-from_slice}
+use Rattle.std.proofs.lemmas.Iterator.Consumers.{fold_from_yields_List}
+use Rattle.std.proofs.lemmas.List.Recursion.{and_at}
+use Rattle.scan.proofs.Replacing.{fold_flag}
 use Rattle.scan.proofs.taking.none_past.Goals as goal
-
-pub loop-i-init : goal.loop-i-init
-loop-i-init c = (omega arith, λ e k h. absurd (omega arith))
-
-pub loop-i-preserved : goal.loop-i-preserved
-loop-i-preserved c =
-    let at = c.loop-i in
-    let a = c.args in
-    (omega arith, still_all (λ (x : ℕ). leb x a.end) a.at.now at.i at.none c.still-none.result c.still-none.ensures at.invariant.1)
 
 pub returns : goal.returns
 returns c =
-    let at = c.loop-i in
     let a = c.args in
-    λ yes-all k h. leb-true (get_or a.at.now k 0) a.end (at.invariant.1 yes-all k (omega arith))
+    let xs = a.at.now in
+    let test : ℕ → Bool = λ x. leb x a.end in
+    let same = fold_from_yields_List _ (λ b x. b && test x) true c.fold.result c.fold.ensures.ran (YieldsList-from_slice xs cc) (λ b x r q k. search (rules, tests)) ∙ fold_flag test true xs in
+    λ e i h. leb-true (get_or xs i 0) a.end (and_at (list_all test) test refl (λ _ _. refl) xs i 0 (omega arith) (sym same ∙ e))

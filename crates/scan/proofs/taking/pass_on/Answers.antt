@@ -1,24 +1,9 @@
 -- `scan::taking::pass_on` meets its contract: the piece is cut by the code's numbers. Assumes nothing.
 use mathlib.Core.Path.{ap, ◌∙◌}
 use Prim.Native.Nat.{ℕ, ◌-◌}
-use native.Mathlib.Omega.{arith}
-use lib.ListN.{length-take, length-drop}
 use Rattle.format.specs.Methods.{format_of}
 use Rattle.scan.proofs.Cuts.{data_part, tags_by_cut, work_by_cut}
 use Rattle.scan.proofs.taking.pass_on.Goals as goal
-
-pub slice_bounds-head-end : goal.slice_bounds-head-end
-slice_bounds-head-end c = simp length-take (omega (arith, c.least-cut.ensures))
-
-pub store-requires : goal.store-requires
-store-requires c =
-    let F = format_of c.args.method in
-    let room = c.data_room-room in
-    let cut = c.least-cut in record {
-      member_bound = c.requires.member_bound;
-      method_bound = omega (arith, room.ensures);
-      bytes_bound = simp (length-take, length-drop) (omega (arith, c.requires.bytes_bound, F.block_parts, room.ensures, cut.ensures));
-    }
 
 pub returns : goal.returns
 returns c =

@@ -5,9 +5,6 @@ use Rattle.format.specs.Methods.{format_of}
 use Rattle.scan.proofs.Cuts.{whole_data, whole-work, whole-tags}
 use Rattle.scan.proofs.taking.pass_whole.Goals as goal
 
-pub slice_bounds-head-end : goal.slice_bounds-head-end
-slice_bounds-head-end c = omega (arith, (format_of c.args.method).block_parts, c.requires.bytes_len, c.requires.method_value)
-
 pub slice_bounds-put_tag-count : goal.slice_bounds-put_tag-count
 slice_bounds-put_tag-count c = omega (arith, (format_of c.args.method).block_parts, c.requires.bytes_len, c.requires.method_value, c.block_length-block.ensures)
 

@@ -3,7 +3,7 @@ use mathlib.Core.Path.{sym, ◌∙◌}
 use native.Mathlib.Omega.{arith}
 use Rattle.format.specs.Methods.{format_of}
 use Rattle.stripe.specs.Stripes.{stored_guards}
-use Rattle.stripe.proofs.Carried.{left_plain, left-carried, others-guards-all}
+use Rattle.stripe.proofs.Carried.{left-carried, others-guards-all}
 use Rattle.stripe.proofs.scrubbing.guards_left.Goals as goal
 
 pub returns-then-carries : goal.returns-then-carries
@@ -13,9 +13,3 @@ returns-then-carries c =
     let stored = stored_guards F a.members a.bytes.now in
     c.stored_combined.ensures ∙ others-guards-all F a.members a.members a.bytes.now (omega arith)
     ∙ sym (left-carried F stored (sym c.carries.ensures ∙ c.if-carries.true))
-
-pub returns : goal.returns
-returns c =
-    let a = c.args in
-    let F = format_of a.method in
-    sym (left_plain F (stored_guards F a.members a.bytes.now) (sym c.carries.ensures ∙ c.if-carries.false))

@@ -1,7 +1,6 @@
 -- `stripe::scrubbing::standings` meets its contract. The invariant: the members passed are told as they stand.
 -- Assumes nothing.
 use mathlib.Core.Path.{◌≡◌}
-use Prim.Native.Nat.{◌-◌, ◌≤◌}
 use lib.ListN.{length, take}
 use Rattle.tag.specs.Blocks.{format_at}
 use Rattle.tag.specs.Tags.{standing_at}
@@ -10,7 +9,4 @@ use Rattle.stripe.specs.Stripes.{block_of}
 use Rattle.stripe.proofs.scrubbing.standings.Given as goal
 
 abbrev pub invariant-loop-member : goal.invariant-loop-member
-invariant-loop-member l = (l.member ≤ l.array.members) × (length l.standing ≡ 16) × (take l.member l.standing ≡ table l.member (λ m. standing_at l.array l.stripe m (block_of (format_at l.array) l.bytes m)))
-
-abbrev pub decreases-loop-member : goal.decreases-loop-member
-decreases-loop-member l = l.array.members - l.member
+invariant-loop-member l = (length l.standing ≡ 16) × (take l.member l.standing ≡ table l.member (λ m. standing_at l.held.stripe.array l.held.stripe.number m (block_of (format_at l.held.stripe.array) l.held.bytes.now m)))

@@ -5,15 +5,14 @@ use mathlib.Core.Logic.{◌≢◌}
 use mathlib.Core.List.{List}
 use Prim.Native.Nat.{ℕ, ◌+◌, ◌-◌, ◌*◌, ◌≤◌, ◌<◌}
 use native.Mathlib.Omega.{arith}
-use borrow.Author.Tests.{eq-eqb, ne_eqb}
+use borrow.Author.Tests.{ne_eqb}
 use lib.ListN.{length, get_or, take, drop}
-use lib.Seq.{sets, length-sets}
+use Rattle.layout.specs.declared.Array.{Array}
 use Rattle.layout.specs.declared.Seat.{Seat}
-use Rattle.format.specs.Formats.{guard, guards_of}
+use Rattle.format.specs.Formats.{Format, guard, guards_of}
 use Rattle.format.proofs.Sizes.{times-next}
-use Rattle.layout.specs.Arrays.{data_members}
-use Rattle.layout.specs.Places.{parity_member, index_at}
-use Rattle.layout.proofs.Ranges.{place_sound}
+use Rattle.layout.specs.Arrays.{data_members, stripe_refusal}
+use Rattle.layout.specs.Places.{parity_member, seat_of, index_at, index_beside}
 use Rattle.layout.proofs.Members.{index_below}
 use Rattle.layout.proofs.Numbers.{index_right}
 use Rattle.tag.specs.Blocks.{format_at}
@@ -22,92 +21,63 @@ use Rattle.tag.proofs.Guards.{own_data, guard-own}
 use Rattle.tag.proofs.Tagged.{tagged_by_lem}
 use Rattle.stripe.specs.Tables.{part, span}
 use Rattle.stripe.specs.Jobs.{with_block, guard_of_parts}
-use Rattle.stripe.proofs.Blocks.{data_then_tag}
-use Rattle.stripe.proofs.Rows.{lent-span, length-span}
-use Rattle.stripe.proofs.Rooms.{block_room}
+use Rattle.stripe.proofs.Rows.{lent-span}
+use Rattle.stripe.proofs.Rooms.{members_most, parity_named}
 use Rattle.stripe.proofs.Guards.{part-guard}
+use Rattle.stripe.proofs.Blocks.{data_then_tag}
+use Rattle.stripe.proofs.Rows.{length-span}
+use lib.Seq.{sets}
 use Rattle.stripe.proofs.sealing.write_member.Goals as goal
 
-pub returns-then-member-parity : goal.returns-then-member-parity
-returns-then-member-parity c =
-    let a = c.args in
-    rw (eq-eqb a.member (parity_member a.array a.stripe) (c.if-member-parity.true ∙ ap (λ (x : Seat). x.parity) c.requires.seat_value))
+-- the part of a member that is not the parity's: its index as the code finds it, and that it is within the data
+record Part (a : Array) (stripe member index size : ℕ) : Type 0 where
+  apart : member ≢ parity_member a stripe
+  right : index ≡ index_at a stripe member
+  small : index < data_members a
+  inside : (format_at a).data_length * index + (format_at a).data_length ≤ size
 
-pub data_at-from-requires : goal.data_at-from-requires
-data_at-from-requires c =
-    let not_parity : let a = c.args in a.member ≢ parity_member a.array a.stripe = λ q. c.if-member-parity.false (q ∙ sym (ap (λ (x : Seat). x.parity) c.requires.seat_value)) in
-    let right : let a = c.args in c.index_beside-index.result ≡ index_at a.array a.stripe a.member = let a = c.args in
-    c.index_beside-index.ensures ∙ index_right a.array a.stripe a.seat.parity a.member (ap (λ (x : Seat). x.parity) c.requires.seat_value) in
-    let small : c.index_beside-index.result < data_members c.args.array = let a = c.args in
-    rw right (index_below a.array a.stripe a.member (place_sound a.array a.stripe a.member c.requires.member_value).here not_parity) in
-    let inside : let a = c.args in
-    (format_at a.array).data_length * c.index_beside-index.result + (format_at a.array).data_length ≤ length a.content.now = omega (arith, c.requires.content_len, times-next (format_at c.args.array).data_length c.index_beside-index.result (data_members c.args.array) small) in
-    omega (arith, inside)
+part_there : (a : Array) (stripe member index size : ℕ) (seat : Seat) → stripe_refusal a stripe ≡ 0 → seat ≡ seat_of a stripe → member < a.members
+    → member ≢ seat.parity → index ≡ index_beside seat.parity member → size ≡ (format_at a).data_length * data_members a → Part a stripe member index size
+part_there a stripe member index size seat sound seated here ne e long =
+    let apart : member ≢ parity_member a stripe = λ q. ne (q ∙ sym (parity_named a stripe sound seat seated)) in
+    let right : index ≡ index_at a stripe member = e ∙ index_right a stripe seat.parity member (parity_named a stripe sound seat seated) in
+    let small : index < data_members a = rw right (index_below a stripe member here apart) in record {
+      apart = apart;
+      right = right;
+      small = small;
+      inside = omega (arith, times-next (format_at a).data_length index (data_members a) small);
+    }
 
-pub overflow_add-end : goal.overflow_add-end
-overflow_add-end c =
-    let not_parity : let a = c.args in a.member ≢ parity_member a.array a.stripe = λ q. c.if-member-parity.false (q ∙ sym (ap (λ (x : Seat). x.parity) c.requires.seat_value)) in
-    let right : let a = c.args in c.index_beside-index.result ≡ index_at a.array a.stripe a.member = let a = c.args in
-    c.index_beside-index.ensures ∙ index_right a.array a.stripe a.seat.parity a.member (ap (λ (x : Seat). x.parity) c.requires.seat_value) in
-    let small : c.index_beside-index.result < data_members c.args.array = let a = c.args in
-    rw right (index_below a.array a.stripe a.member (place_sound a.array a.stripe a.member c.requires.member_value).here not_parity) in
-    let inside : let a = c.args in
-    (format_at a.array).data_length * c.index_beside-index.result + (format_at a.array).data_length ≤ length a.content.now = omega (arith, c.requires.content_len, times-next (format_at c.args.array).data_length c.index_beside-index.result (data_members c.args.array) small) in
-    omega (arith, inside, c.data_length.ensures, c.data_at-from.ensures)
-
-pub block_at-requires : goal.block_at-requires
-block_at-requires c =
-    let a = c.args in
-    omega (arith, block_room a.array a.stripe a.member c.requires.member_value a.bytes.now c.requires.bytes_len)
+-- the part as the code takes it
+lent_part : (F : Format) (index from size : ℕ) (content : List ℕ) → from ≡ F.data_length * index → size ≡ F.data_length
+    → take (from + size - from) (drop from content) ≡ span (F.data_length * index) F.data_length content
+lent_part F index from size content at long = lent-span from size content ∙ ap₂ (λ (k n : ℕ). span k n content) at long
 
 pub slice_bounds-put-end : goal.slice_bounds-put-end
 slice_bounds-put-end c =
-    let not_parity : let a = c.args in a.member ≢ parity_member a.array a.stripe = λ q. c.if-member-parity.false (q ∙ sym (ap (λ (x : Seat). x.parity) c.requires.seat_value)) in
-    let right : let a = c.args in c.index_beside-index.result ≡ index_at a.array a.stripe a.member = let a = c.args in
-    c.index_beside-index.ensures ∙ index_right a.array a.stripe a.seat.parity a.member (ap (λ (x : Seat). x.parity) c.requires.seat_value) in
-    let small : c.index_beside-index.result < data_members c.args.array = let a = c.args in
-    rw right (index_below a.array a.stripe a.member (place_sound a.array a.stripe a.member c.requires.member_value).here not_parity) in
-    let inside : let a = c.args in
-    (format_at a.array).data_length * c.index_beside-index.result + (format_at a.array).data_length ≤ length a.content.now = omega (arith, c.requires.content_len, times-next (format_at c.args.array).data_length c.index_beside-index.result (data_members c.args.array) small) in
-    omega (arith, inside, c.data_length.ensures, c.data_at-from.ensures)
-
-pub write_tag-requires : goal.write_tag-requires
-write_tag-requires c =
     let a = c.args in
-    let same : length c.put.new.dst ≡ length a.bytes.now =
-    ap length c.put.ensures
-    ∙ length-sets a.bytes.now c.block_at.result (take (c.data_at-from.result + c.data_length.result - c.data_at-from.result) (drop c.data_at-from.result a.content.now)) in record {
-      member_value = c.requires.member_value;
-      array_in_bounds = omega (arith, same, block_room a.array a.stripe a.member c.requires.member_value a.bytes.now c.requires.bytes_len);
-      seat_value = c.requires.seat_value;
-    }
+    let s = a.stripe in
+    let p = part_there s.array s.number a.member c.index_beside-index.result (length a.content.now) s.seat s.in_array s.seated c.requires.member_in c.if-member-parity.false c.index_beside-index.ensures c.requires.content_len in
+    omega (arith, p.inside, c.data_length.ensures, c.data_at-from.ensures)
 
 pub returns : goal.returns
 returns c =
-    let not_parity : let a = c.args in a.member ≢ parity_member a.array a.stripe = λ q. c.if-member-parity.false (q ∙ sym (ap (λ (x : Seat). x.parity) c.requires.seat_value)) in
-    let right : let a = c.args in c.index_beside-index.result ≡ index_at a.array a.stripe a.member = let a = c.args in
-    c.index_beside-index.ensures ∙ index_right a.array a.stripe a.seat.parity a.member (ap (λ (x : Seat). x.parity) c.requires.seat_value) in
-    let small : c.index_beside-index.result < data_members c.args.array = let a = c.args in
-    rw right (index_below a.array a.stripe a.member (place_sound a.array a.stripe a.member c.requires.member_value).here not_parity) in
-    let many : c.args.array.members ≤ 16 = (place_sound _ _ _ c.requires.member_value).stripe.array.many in
-    let inside : let a = c.args in
-    (format_at a.array).data_length * c.index_beside-index.result + (format_at a.array).data_length ≤ length a.content.now = omega (arith, c.requires.content_len, times-next (format_at c.args.array).data_length c.index_beside-index.result (data_members c.args.array) small) in
     let a = c.args in
-    let F = format_at a.array in
-    let from = c.data_at-from.result in
-    let end = c.data_at-from.result + c.data_length.result in
-    let part_of = take (end - from) (drop from a.content.now) in
-    let lent : part_of ≡ span (F.data_length * c.index_beside-index.result) F.data_length a.content.now =
-    lent-span c.data_at-from.result c.data_length.result a.content.now ∙ ap₂ (λ (k n : ℕ). span k n a.content.now) c.data_at-from.ensures c.data_length.ensures in
-    let long : length part_of ≡ F.data_length = ap length lent ∙ length-span (F.data_length * c.index_beside-index.result) F.data_length a.content.now inside in
-    let parts = guard_of_parts a.array a.content.now in
-    let own = c.requires.data_guard_value ∙ ap (λ (k : ℕ). get_or (guards_of F 16 F.data_length a.content.now) k 0) (sym right)
-    ∙ part-guard F a.content.now c.index_beside-index.result (omega (arith, small, many)) ∙ ap (guard F) (sym lent) in
-    let written = data_then_tag a.array a.stripe a.member a.data_guard a.bytes.now c.put.new.dst c.write_tag.new.bytes part_of long
+    let s = a.stripe in
+    let F = format_at s.array in
+    let index = c.index_beside-index.result in
+    let p = part_there s.array s.number a.member index (length a.content.now) s.seat s.in_array s.seated c.requires.member_in c.if-member-parity.false c.index_beside-index.ensures c.requires.content_len in
+    let part_of = take (c.data_at-from.result + c.data_length.result - c.data_at-from.result) (drop c.data_at-from.result a.content.now) in
+    let lent = lent_part F index c.data_at-from.result c.data_length.result a.content.now c.data_at-from.ensures c.data_length.ensures in
+    let parts = guard_of_parts s.array a.content.now in
+    let own = c.from.ensures ∙ c.requires.data_guard_value ∙ ap (λ (k : ℕ). get_or (guards_of F 16 F.data_length a.content.now) k 0) (sym p.right)
+    ∙ part-guard F a.content.now index (omega (arith, p.small, members_most s.array s.number s.in_array)) ∙ ap (guard F) (sym lent) in
+    let long = ap length lent ∙ length-span (F.data_length * index) F.data_length a.content.now p.inside in
+    let written = data_then_tag s.array s.number a.member c.from.result a.bytes.now c.put.new.dst c.write_tag.new.bytes part_of long
     (c.put.ensures ∙ ap (λ (k : ℕ). sets a.bytes.now k part_of) c.block_at.ensures) c.write_tag.ensures in
-    rw (ne_eqb a.member (parity_member a.array a.stripe) not_parity)
+    rw (ne_eqb a.member (parity_member s.array s.number) p.apart)
     (written
     ∙ ap (with_block F a.bytes.now a.member)
-    (tagged_by_lem a.array a.stripe a.member parts a.data_guard part_of (own ∙ sym (guard-own a.array a.stripe a.member parts _ (own_data a.array a.stripe a.member not_parity))))
-    ∙ ap (λ (l : List ℕ). with_block F a.bytes.now a.member (tagged a.array a.stripe a.member parts l))
-    (lent ∙ ap (part F.data_length a.content.now) right))
+    (tagged_by_lem s.array s.number a.member parts c.from.result part_of (own ∙ sym (guard-own s.array s.number a.member parts _ (own_data s.array s.number a.member p.apart))))
+    ∙ ap (λ (l : List ℕ). with_block F a.bytes.now a.member (tagged s.array s.number a.member parts l))
+    (lent ∙ ap (part F.data_length a.content.now) p.right))

@@ -10,5 +10,6 @@ use Rattle.stripe.proofs.updating.guards_agree.Goals as goal
 pub returns : goal.returns
 unfolding guards_agree
 returns c =
-    let a = c.args in
-    ap₂ eqb (c.stored_combined-combined.ensures ∙ others-guards-all (format_at a.array) a.array.members a.array.members a.bytes.now (omega arith)) (c.wide.ensures ∙ c.settled.ensures)
+    let h = c.args.held.now in
+    let n = h.stripe.array.members in
+    ap₂ eqb (c.stored_combined-combined.ensures ∙ others-guards-all (format_at h.stripe.array) n n h.bytes.now (omega arith)) (c.from.ensures ∙ c.settled.ensures)

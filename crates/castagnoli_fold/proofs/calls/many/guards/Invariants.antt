@@ -1,13 +1,16 @@
--- `castagnoli_fold::calls::many::guards` meets its contract. The invariant: the first m checks are known, and the next run begins at `at`.
--- Assumes nothing.
+-- `castagnoli_fold::calls::many::guards` meets its contract. The invariant: the buffer can serve again, and the checks found, and those of the
+-- runs still to come, are all. Assumes nothing.
 use mathlib.Core.Path.{◌≡◌}
-use Prim.Native.Nat.{◌-◌, ◌*◌, ◌≤◌, min}
-use lib.ListN.{length}
-use Rattle.castagnoli_fold.specs.Many.{Known}
+use mathlib.Core.List.{◌++◌}
+use Prim.Native.Nat.{◌-◌}
+use lib.ListN.{length, take, drop, replicate}
+use Rattle.castagnoli.specs.Blocks.{guards_of}
+use Rattle.castagnoli_rows.specs.Folds.{Ready}
+use Rattle.castagnoli_fold.specs.Heads.{head_of}
 use Rattle.castagnoli_fold.proofs.calls.many.guards.Given as goal
 
-abbrev pub invariant-loop-m : goal.invariant-loop-m
-invariant-loop-m l = (l.count ≤ l.m) × (l.m ≤ 16) × (l.at ≡ min (l.m * l.stride) (length l.bytes)) × (length l.out ≡ 16) × Known l.stride l.bytes l.out l.m
-
-abbrev pub decreases-loop-m : goal.decreases-loop-m
-decreases-loop-m l = 16 - l.m
+abbrev pub invariant-loop-guard : goal.invariant-loop-guard
+invariant-loop-guard l =
+    (length l.guard-items ≡ 16) × (drop l.guard-index l.guard-items ≡ replicate (16 - l.guard-index) 0)
+    × (take l.guard-index l.guard-items ++ guards_of (16 - l.guard-index) l.stride l.rest ≡ guards_of 16 l.stride l.bytes)
+    × Ready 448 3648 (head_of l.register) l.w

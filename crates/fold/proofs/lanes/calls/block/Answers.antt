@@ -8,4 +8,4 @@ use Rattle.fold.proofs.lanes.calls.block.Goals as goal
 pub returns : goal.returns
 returns c =
     let a = c.args in
-    c.end.ensures ∙ c.joined-joined.ensures ∙ block a.bytes.now (search rules) a.register c.lanes_alone-words.result (search rules) c.lanes_alone-words.ensures
+    c.end.ensures ∙ c.joined-joined.ensures ∙ block a.bytes.now (search rules) a.register c.lanes-words.result (search rules) c.lanes-words.ensures

@@ -1,5 +1,4 @@
--- `fold::lanes::calls::many::guards` meets its contract. The invariant: the first m guards are known, the others are 0, and the next run begins
--- at `at`. Assumes nothing.
+-- `fold::lanes::calls::many::guards` meets its contract. Assumes nothing.
 use mathlib.Core.Path.{◌≡◌, ap, ◌∙◌}
 use Prim.Native.Nat.{ℕ, ◌*◌}
 use native.Mathlib.Omega.{arith}
@@ -7,42 +6,42 @@ use lib.ListN.{length, take, drop, length-set}
 use lib.Seq.{get_or-set_other}
 use Rattle.crc.specs.Guard.{guard}
 use Rattle.fold.proofs.Stored.{set_more}
-use Rattle.fold.proofs.Strides.{rest_of, next-run, known-all, guards_of_each}
+use Rattle.fold.proofs.Strides.{rest_of, stride_on, next-run, past_all, known-all, guards_of_each}
 use borrow.Author.Rules.{rules}
 use Rattle.fold.proofs.lanes.calls.many.guards.Goals as goal
 
-pub loop-m-init : goal.loop-m-init
-loop-m-init c =
+pub loop-k-init : goal.loop-k-init
+loop-k-init c =
     let w = c.of_wholes-out.ensures in
-    (omega arith, c.whole-count.ensures.few, search rules, search rules, w.known, w.by_index)
+    let bytes = c.args.bytes.now in
+    (search rules, w.known, w.behind, stride_on bytes (c.whole-count.result * c.args.stride) c.min.result (omega arith))
 
-pub returns-then-at-bytes : goal.returns-then-at-bytes
-returns-then-at-bytes c =
-    let at = c.loop-m in
+pub loop-k-preserved : goal.loop-k-preserved
+loop-k-preserved c =
+    let at = c.loop-k in
     let inv = at.invariant in
-    let a = c.args in
-    let bytes = a.bytes.now in
-    guards_of_each at.out 16 a.stride bytes inv.3 (known-all bytes a.stride at.out at.m inv.4 inv.5 (omega (arith, inv.2)))
-
-pub loop-m-preserved : goal.loop-m-preserved
-loop-m-preserved c =
-    let a = c.args in
-    let at = c.loop-m in
-    let inv = at.invariant in
-    let bytes = a.bytes.now in
-    let m = at.m in
-    let g = c.of_rest.result in (
-      omega arith,
-      omega arith,
-      c.further-at.ensures ∙ next-run m a.stride at.at (length bytes) inv.2,
-      length-set at.out m g ∙ inv.3,
-      set_more (λ (k x : ℕ). x ≡ guard (take 512 (drop (k * a.stride) bytes))) at.out m g (omega arith) inv.4
-          (c.of_rest.ensures ∙ ap guard (rest_of bytes m a.stride at.at inv.2 (c.whole-count.ensures.past m inv.0 (omega arith)))),
-      λ k h below. get_or-set_other at.out m k g 0 (λ e. omega arith) ∙ inv.5 k (omega arith) below,
+    let stride = c.args.stride in
+    let bytes = c.args.bytes.now in
+    let rest = at.rest.now in
+    let k = at.k in
+    let g = c.guard.result in (
+      length-set at.out k g ∙ inv.0,
+      set_more (λ (k x : ℕ). x ≡ guard (take 512 (drop (k * stride) bytes))) at.out k g 0 (omega arith) inv.1
+          (c.guard.ensures ∙ ap guard (inv.3 ∙ rest_of bytes k stride (c.whole-count.ensures.past k (omega arith) (omega arith)))),
+      λ j h below. get_or-set_other at.out k j g 0 (λ e. omega arith) ∙ inv.2 j (omega arith) below,
+      stride_on rest stride c.min-in-loop-k.result c.min-in-loop-k.ensures ∙ next-run bytes rest k stride inv.3,
     )
 
-pub returns : goal.returns
-returns c =
-    let at = c.loop-m in
-    let a = c.args in
-    guards_of_each at.out 16 a.stride a.bytes.now at.invariant.3 (λ l h. at.invariant.4 l (omega arith))
+pub returns-then-is_empty : goal.returns-then-is_empty
+returns-then-is_empty c =
+    let at = c.loop-k in
+    let inv = at.invariant in
+    let stride = c.args.stride in
+    let bytes = c.args.bytes.now in
+    let none : length at.rest.now ≡ 0 = grind (arith, c.is_empty.ensures, c.if-is_empty.true) in
+    guards_of_each at.out 16 stride bytes inv.0 (known-all bytes stride at.out at.k inv.1 inv.2 (past_all bytes at.rest.now (at.k * stride) inv.3 none))
+
+pub returns-after-loop-k : goal.returns-after-loop-k
+returns-after-loop-k c =
+    let at = c.loop-k in
+    guards_of_each at.out 16 c.args.stride c.args.bytes.now at.invariant.0 (λ l h. at.invariant.1 l (omega arith))

@@ -1,10 +1,10 @@
 -- `fold::lanes::calls::many::of_wholes` meets its contract.
 -- Assumes nothing.
-use mathlib.Core.Path.{◌≡◌, refl, ◌∙◌}
-use Prim.Native.Nat.{ℕ, ◌+◌, ◌*◌, ◌≤◌, ◌<◌}
+use mathlib.Core.Path.{◌≡◌, refl, ap, ◌∙◌}
+use mathlib.Core.List.{List, [], ◌∷◌}
+use Prim.Native.Nat.{ℕ}
 use native.Mathlib.Omega.{arith}
-use mathlib.Core.List.{List}
-use lib.ListN.{get_or, replicate, get_or-replicate}
+use lib.ListN.{get_or}
 use Rattle.crc.specs.Crc.{feed, bits, bit_step}
 use Rattle.crc.specs.Guard.{guard}
 use Rattle.words.specs.Words.{rest}
@@ -18,19 +18,16 @@ unfolding rest feed bits bit_step
 rest_none = refl
 
 -- where no lanes were stored, they come to nothing
-none_behind : (words : List ℕ) (count : ℕ) → ((j : ℕ) → 4 * count ≤ j → get_or words j 0 ≡ get_or (replicate 64 0) j 0) → (k : ℕ) → count ≤ k → k < 16
-    → quad (rest (get_or words (4 * k) 0)) (rest (get_or words (4 * k + 1) 0)) (rest (get_or words (4 * k + 2) 0)) (rest (get_or words (4 * k + 3) 0)) ≡ 0
-none_behind words count same k h below =
-    rw (at (4 * k) (omega arith) (omega arith), at (4 * k + 1) (omega arith) (omega arith), at (4 * k + 2) (omega arith) (omega arith), at (4 * k + 3) (omega arith) (omega arith), rest_none) quad-none
-  where
-    at : (j : ℕ) → 4 * count ≤ j → j < 64 → get_or words j 0 ≡ 0
-    at j g few = same j g ∙ get_or-replicate 64 j 0 0 few
+none_behind : (v : List ℕ) → v ≡ 0 ∷ 0 ∷ 0 ∷ 0 ∷ [] → quad (rest (get_or v 0 0)) (rest (get_or v 1 0)) (rest (get_or v 2 0)) (rest (get_or v 3 0)) ≡ 0
+none_behind v e =
+    ap (λ (u : List ℕ). quad (rest (get_or u 0 0)) (rest (get_or u 1 0)) (rest (get_or u 2 0)) (rest (get_or u 3 0))) e
+    ∙ ap (λ (x : ℕ). quad x x x x) rest_none ∙ quad-none
 
 pub returns : goal.returns
 unfolding guard
 returns c =
-    let few = c.requires.0 in
-    let come = c.columns.ensures in record {
-      known = λ l h. c.ends.ensures l (omega arith) ∙ c.joins.ensures l (omega arith) ∙ come.out_len_unchanged.1 l h;
-      by_index = λ k h below. c.ends.ensures k below ∙ c.joins.ensures k below ∙ none_behind c.columns.new.out c.args.count come.by_index_2 k h below;
+    let few = c.requires.few in
+    let lanes = c.columns.ensures in record {
+      known = λ l h. c.ends.ensures l (omega arith) ∙ c.joins.ensures l (omega arith) ∙ lanes.come l h;
+      behind = λ k h below. c.ends.ensures k below ∙ c.joins.ensures k below ∙ none_behind (get_or c.columns.result k []) (lanes.behind k h below);
     }

@@ -1,9 +1,9 @@
 -- `fold::lanes::calls::many::whole` meets its contract.
 -- Assumes nothing.
-use Prim.Native.Nat.{◌-◌}
+use Prim.Native.Nat.{◌+◌, ◌-◌, ◌/◌, min}
 use native.Mathlib.Nat.{div-le_self}
 use native.Mathlib.Omega.{arith}
-use mathlib.Core.Path.{sym, subst}
+use mathlib.Core.Path.{◌≡◌, sym, subst}
 use Rattle.fold.specs.Many.{Whole}
 use Rattle.fold.proofs.Strides.{all_whole, some-whole}
 use Rattle.fold.proofs.lanes.calls.many.whole.Goals as goal
@@ -21,4 +21,5 @@ overflow_add-end c =
 pub returns : goal.returns
 returns c =
     let a = c.args in
-    subst (Whole a.stride a.end) (sym c.least.ensures) (some-whole a.stride a.end (omega arith) (omega arith))
+    let e : c.min.result ≡ min 16 ((a.end - 512) / a.stride + 1) = omega arith in
+    subst (Whole a.stride a.end) (sym e) (some-whole a.stride a.end (omega arith) (omega arith))
