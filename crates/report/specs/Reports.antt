@@ -1,5 +1,5 @@
 -- The report of an image: from the bytes of the whole image to the bytes of its report. Assumes nothing.
-use Rattle.std.specs.Prelude.{ℕ, zero, suc, ◌+◌, cond, List, [], ◌∷◌, ◌++◌, ltb, eqb, length, take, drop}
+use Rattle.std.specs.Prelude.{ℕ, zero, suc, ◌+◌, cond, List, [], ◌∷◌, ◌++◌, ltb, eqb, length, get_or, take, drop}
 use Rattle.layout.specs.declared.Array.{Array}
 use Rattle.tag.specs.Blocks.{format_at}
 use Rattle.stripe.specs.Tables.{table}
@@ -7,13 +7,24 @@ use Rattle.stripe.specs.Stripes.{stripe_length, block_of}
 use Rattle.stripe.specs.Verdicts.{scrub_blocks}
 use Rattle.lines.specs.declared.tally.Tally.{Tally}
 use Rattle.lines.specs.Lines.{first_line, refused_line, stripe_line, total_line}
-unfoldable pub use Rattle.lines.specs.Lines.{counted}
 use Rattle.lines.specs.Headers.{header_size, array_in, header_refusal}
 
 -- ---- how many stripes were clean, bad, unchecked, torn
 
 abbrev pub none : Tally
 none = record { clean = 0; bad = 0; unchecked = 0; torn = 0 }
+
+-- how many stripes were counted
+abbrev pub stripes_in : Tally → ℕ
+stripes_in t = t.clean + t.bad + t.unchecked + t.torn
+
+-- with one verdict more, in numbers
+unfoldable pub counted : Tally → List ℕ → Tally
+counted t verdict =
+    cond (eqb (get_or verdict 0 0) 0) (record { clean = t.clean + 1; bad = t.bad; unchecked = t.unchecked; torn = t.torn })
+    (cond (eqb (get_or verdict 0 0) 1) (record { clean = t.clean; bad = t.bad + 1; unchecked = t.unchecked; torn = t.torn })
+    (cond (eqb (get_or verdict 0 0) 3) (record { clean = t.clean; bad = t.bad; unchecked = t.unchecked + 1; torn = t.torn })
+    (record { clean = t.clean; bad = t.bad; unchecked = t.unchecked; torn = t.torn + 1 })))
 
 -- ---- the stripes, of which `left` are still to come, the next one being `stripe`
 

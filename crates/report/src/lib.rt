@@ -11,8 +11,9 @@ ghost use Rattle.refusal.specs.Refusals.{number};
 ghost use Rattle.verdict.specs.Verdicts.{verdict_numbers};
 ghost use Rattle.tag.specs.Blocks.{format_at};
 ghost use Rattle.stripe.specs.Stripes.{stripe_length};
-ghost use Rattle.lines.specs.Lines.{stripes_in, refused_line};
+ghost use Rattle.lines.specs.Lines.{refused_line};
 ghost use Rattle.lines.specs.Stages.{number_of};
+ghost use Rattle.report.specs.Reports.{stripes_in, counted};
 ghost use Rattle.report.specs.Feeding.{Does, judgement, holding, entering, ended, header_came, stripe_fit, stripe_judged, stripe_whole, block_lacks, stripe_took};
 
 pub use feeding::{close, feed, new};
@@ -104,6 +105,31 @@ pub struct Fed {
     pub written: usize,
 }
 
+// A tally with one more verdict.
+fn counted(tally: Tally, verdict: Verdict) -> Tally
+    requires { stripes_in tally ≤ 1099511627776 }
+    ensures { result ≡ counted tally (verdict_numbers verdict) }
+{
+    match verdict {
+        Verdict::Clean => Tally {
+            clean: tally.clean + 1,
+            ..tally
+        },
+        Verdict::Bad { .. } => Tally {
+            bad: tally.bad + 1,
+            ..tally
+        },
+        Verdict::Unchecked { .. } => Tally {
+            unchecked: tally.unchecked + 1,
+            ..tally
+        },
+        Verdict::Torn { .. } => Tally {
+            torn: tally.torn + 1,
+            ..tally
+        },
+    }
+}
+
 // The stripe has its verdict: its line, and the scan of the stripe after it, if there is one.
 fn stripe_judged(
     used: usize,
@@ -117,7 +143,7 @@ fn stripe_judged(
 {
     let scan = report.scan;
     let written = lines::stripe_line(out, scan.stripe, verdict);
-    let tally = report.tally.counted(verdict);
+    let tally = counted(report.tally, verdict);
     let next = scan.stripe + 1;
     if next < scan.array.stripes {
         let fresh = begin(scan.array, next, work);

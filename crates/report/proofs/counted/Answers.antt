@@ -1,5 +1,6 @@
-use Rattle.lines.specs.Lines.{counted}
-use Rattle.lines.proofs.tally.Tally.counted.Goals as goal
+-- `counted` is `counted`. Assumes nothing.
+use Rattle.report.specs.Reports.{counted}
+use Rattle.report.proofs.counted.Goals as goal
 
 pub returns-in-Clean : goal.returns-in-Clean
 unfolding counted
