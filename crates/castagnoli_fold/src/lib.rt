@@ -16,13 +16,11 @@ use castagnoli_rows::{Places, tail, take};
 // The five places of the fold to 448 bytes.
 struct Wide;
 
-impl Places for Wide {
+impl Places<231> for Wide {
     ghost places = { 4 ∷ 20 ∷ 161 ∷ 206 ∷ 230 ∷ [] };
 
-    ghost reach = { 230 };
-
-    fn mixed(b: &[u8], w: &[u8], k: usize) -> u8 {
-        b[k] ^ w[k + 4] ^ w[k + 20] ^ w[k + 161] ^ w[k + 206] ^ w[k + 230]
+    fn mixed(byte: u8, w: &[u8; 231]) -> u8 {
+        byte ^ w[4] ^ w[20] ^ w[161] ^ w[206] ^ w[230]
     }
 
     ghost within = { refl };
@@ -34,6 +32,6 @@ fn to_448(register: u32, b: &[u8; 4096], w: &mut [u8]) -> [u8; 448]
     ensures result_value { advance 0 result ≡ advance register b.now }
     ensures ready { Ready 448 3648 (head_of register) w.new }
 {
-    take::<Wide, 64, 448, 3648>(b, w);
-    tail::<Wide, 448, 3648>(b, w)
+    take::<Wide, 231, 64, 448, 3648>(b, w);
+    tail::<Wide, 231, 448, 3648>(b, w)
 }

@@ -2,7 +2,7 @@
 -- definitions.
 -- A fold takes the first m of m + n bytes away. As they are when they are taken they stand in a buffer, n places on; and each byte of the m + n is
 -- met by those that stand at some places of the buffer, counted from its own. Before them stands a head, and after them zeros. Assumes nothing.
-use Rattle.std.specs.Prelude.{◌≡◌, Bool, true, ◌&&◌, leb, List, [], ◌∷◌, ℕ, ◌+◌, ◌≤◌, ◌<◌, length, get_or}
+use Rattle.std.specs.Prelude.{◌≡◌, Bool, true, ◌&&◌, ltb, List, [], ◌∷◌, ℕ, ◌+◌, ◌-◌, ◌%◌, ◌≤◌, ◌<◌, length, get_or}
 use Rattle.std.specs.Int.Bits.{bit_xor}
 
 -- x, and what w holds at each of the places from k on, added
@@ -10,10 +10,23 @@ abbrev pub mix : List ℕ → ℕ → List ℕ → ℕ → ℕ
 mix [] x w k = x
 mix (e ∷ es) x w k = mix es (bit_xor x (get_or w (k + e) 0)) w k
 
--- no place is past z
-abbrev pub no_further : ℕ → List ℕ → Bool
-no_further z [] = true
-no_further z (e ∷ es) = leb e z && no_further z es
+-- each place is below r
+abbrev pub all_below : ℕ → List ℕ → Bool
+all_below r [] = true
+all_below r (e ∷ es) = ltb e r && all_below r es
+
+-- the sizes of a fold of places below r: chunks of c bytes, which meet none of each other, come to m, and b and w are as long as they are to be
+pub record Fit (r c n m : ℕ) (b w : List ℕ) : Type 0 where
+  pub some : 0 < c
+  pub whole : m % c ≡ 0
+  pub apart : r - 1 + c ≤ n
+  pub bytes : length b ≡ m + n
+  pub buffer : length w ≡ n + m + n
+
+-- b has n bytes after its first m, and w has all that meets them
+pub record Room (r n m : ℕ) (b w : List ℕ) : Type 0 where
+  pub bytes : m + n ≤ length b
+  pub buffer : m + n + (r - 1) ≤ length w
 
 -- a buffer with the head in front, filled up with zeros, and zeros at the end
 pub record Ready (n m : ℕ) (head w : List ℕ) : Type 0 where

@@ -15,21 +15,11 @@ pub use rows::of_448;
 // The nine places of the fold to 128 bytes.
 struct Near;
 
-impl Places for Near {
+impl Places<57> for Near {
     ghost places = { 13 ∷ 22 ∷ 23 ∷ 33 ∷ 37 ∷ 42 ∷ 48 ∷ 52 ∷ 56 ∷ [] };
 
-    ghost reach = { 56 };
-
-    fn mixed(b: &[u8], w: &[u8], k: usize) -> u8 {
-        b[k] ^ w[k + 13]
-            ^ w[k + 22]
-            ^ w[k + 23]
-            ^ w[k + 33]
-            ^ w[k + 37]
-            ^ w[k + 42]
-            ^ w[k + 48]
-            ^ w[k + 52]
-            ^ w[k + 56]
+    fn mixed(byte: u8, w: &[u8; 57]) -> u8 {
+        byte ^ w[13] ^ w[22] ^ w[23] ^ w[33] ^ w[37] ^ w[42] ^ w[48] ^ w[52] ^ w[56]
     }
 
     ghost within = { refl };
@@ -40,6 +30,6 @@ fn to_128(b: [u8; 448]) -> [u8; 128]
     ensures { advance 0 result ≡ advance 0 b }
 {
     let mut w = [0u8; 576];
-    take::<Near, 32, 128, 320>(&b, &mut w);
-    tail::<Near, 128, 320>(&b, &w)
+    take::<Near, 57, 32, 128, 320>(&b, &mut w);
+    tail::<Near, 57, 128, 320>(&b, &w)
 }

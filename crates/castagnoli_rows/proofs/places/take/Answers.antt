@@ -4,7 +4,8 @@ use mathlib.Core.Path.{◌≡◌, sym, subst, ◌∙◌}
 use Prim.Native.Nat.{ℕ, ◌+◌, ◌*◌, ◌/◌, ◌%◌, ◌≤◌, ◌<◌}
 use native.Mathlib.Nat.{mul_comm, le-div_iff_mul-le}
 use native.Mathlib.Omega.{arith}
-use Rattle.castagnoli_rows.specs.Folds.{Taken}
+use Rattle.castagnoli_rows.specs.Folds.{Fit, Taken}
+use borrow.Author.Rules.{rules}
 use Rattle.castagnoli_rows.proofs.Chunks.{taken_more}
 use Rattle.castagnoli_rows.proofs.places.take.Goals as goal
 
@@ -29,17 +30,16 @@ loop-k-preserved g c =
     let fold = g.P.Places in
     let n = g.row.N in
     let m = g.row.M in
-    let some : 0 < g.row.C = c.requires.chunks.0 in (
+    let fit : Fit g.row.R g.row.C n m b c.args.w.now = search rules in (
       c.chunk.ensures.long ∙ at.invariant.0,
       λ head ready.
           subst (λ (x : ℕ). Taken fold.places n m head b c.chunk.new.w x) (next g.row.C at.k)
-          (taken_more fold.places fold.reach n m g.row.C head b at.w c.chunk.new.w (g.row.C * at.k) g.met.P.Places.within c.requires.chunks.2
-          (within g.row.C at.k m some c.loop-k-test.true) c.chunk.ensures (at.invariant.1 head ready)),
+          (taken_more fold.places g.row.R n m g.row.C head b at.w c.chunk.new.w (g.row.C * at.k) g.met.P.Places.within fit.apart
+          (within g.row.C at.k m fit.some c.loop-k-test.true) c.chunk.ensures (at.invariant.1 head ready)),
     )
 
-pub returns : goal.returns
-returns g c = λ head ready.
+pub returns-clause-taken : goal.returns-clause-taken
+returns-clause-taken g c = λ fit head ready.
     let at = c.loop-k in
-    let r = c.requires.chunks in
     subst (λ (x : ℕ). Taken g.P.Places.places g.row.N g.row.M head c.args.b.now at.w x)
-    (all g.row.C at.k g.row.M r.0 r.1 at.auto.k-end c.loop-k-test.false) (at.invariant.1 head ready)
+    (all g.row.C at.k g.row.M fit.some fit.whole at.auto.k-end c.loop-k-test.false) (at.invariant.1 head ready)
