@@ -246,12 +246,13 @@ pub fn advance(method: u8, at: usize, register: u32, bytes: &[u8]) -> u32
 }
 
 // The guard that a register gives.
+// Stays: the numbers and no `Kind`, measured: with it a finish takes up to 1.3 of what it takes, its loads of a tag's bytes no more joined to one.
 pub fn guard_of(method: u8, register: u32) -> u32
     ensures { result ≡ (format_of method).guard_of register }
 {
-    match kind_of(method) {
-        Kind::Crc => register,
-        Kind::Checksum => register % 65536,
-        Kind::Large => castagnoli::guard_of(register),
+    match method {
+        2 => register % 65536,
+        3 => castagnoli::guard_of(register),
+        _ => register,
     }
 }

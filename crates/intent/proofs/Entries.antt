@@ -1,7 +1,7 @@
 -- The entries of a log, tested one by one and read one after the other. Assumes nothing.
 use mathlib.Core.Path.{◌≡◌, refl, sym, ap, ◌∙◌, subst}
 use mathlib.Core.Logic.{◌≢◌}
-use mathlib.Core.Bool.{Bool, true, false, ◌&&◌}
+use mathlib.Core.Bool.{Bool, true, false, cond, ◌&&◌}
 use mathlib.Core.List.{List, [], ◌∷◌, map}
 use Prim.Native.Nat.{ℕ, zero, suc, ◌+◌, ◌≤◌, ◌<◌}
 use native.Mathlib.Nat.{le_of_suc-le-suc, not-suc-le-zero}
@@ -9,15 +9,19 @@ use native.Mathlib.Omega.{arith}
 use borrow.Author.Tests.{eq-eqb, ne_eqb, le-leb, lt-leb}
 use denote.Param.Members.{Mut}
 use lib.Dec.{eqb}
-use lib.ListN.{get_or}
+use lib.ListN.{length, drop, take, get_or}
 use lib.Seq.{ext_get_or}
 use Rattle.std.proofs.Common.{add-zero, zero-add}
 use Rattle.std.specs.Array.{IsFromFnResultFrom, IsFromFnResult}
 use Rattle.std.specs.Fn.{Called}
+use Rattle.std.specs.Int.{from_be_bytes, w64}
 use Rattle.std.specs.List.{list_all}
 use Rattle.stripe.specs.Tables.{table, all}
 use Rattle.stripe.proofs.Tables.{length-table, get_or-table}
-use Rattle.intent.specs.Records.{many, entry_fits}
+use Rattle.tag.specs.Numbers.{number_of}
+use Rattle.tag.proofs.Numbers.{take_elements}
+use Rattle.verdict.proofs.Flags.{count-cons}
+use Rattle.intent.specs.Records.{those, many, entry_fits}
 
 -- ---- tested
 
@@ -36,7 +40,30 @@ pub all-map : (p : ℕ → Bool) (es : List ℕ) → all (map p es) ≡ list_all
 all-map p [] = refl
 all-map p (e ∷ es) = ap (λ (t : Bool). p e && t) (all-map p es)
 
+-- ---- counted, one after the other
+
+pub counted : (es : List ℕ) (x i : ℕ) → i < length es → many x (take (i + 1) es) ≡ many x (take i es) + cond (eqb (get_or es i 0) x) 1 0
+counted [] x i h = absurd (not-suc-le-zero h)
+counted (e ∷ es) x zero h = count-cons (eqb e x) [] ∙ omega arith
+counted (e ∷ es) x (suc i) h =
+    let flag : ℕ = cond (eqb e x) 1 0 in
+    let next : suc i + 1 ≡ suc (i + 1) = omega arith in
+    let more : many x (e ∷ take (i + 1) es) ≡ flag + many x (take (i + 1) es) = count-cons (eqb e x) (those x (take (i + 1) es)) in
+    let one : many x (e ∷ take i es) ≡ flag + many x (take i es) = count-cons (eqb e x) (those x (take i es)) in
+    let rest = counted es x i (le_of_suc-le-suc h) in
+    rw next (omega (arith, more, one, rest))
+
 -- ---- read, one after the other
+
+-- eight bytes as a number
+pub eight_there : (at : ℕ) (l : List ℕ) → at + 8 ≤ length l
+    → from_be_bytes w64
+    (get_or l at 0 ∷ get_or l (at + 1) 0 ∷ get_or l (at + 2) 0 ∷ get_or l (at + 3) 0 ∷ get_or l (at + 4) 0 ∷ get_or l (at + 5) 0 ∷ get_or l (at + 6) 0 ∷ get_or l (at + 7) 0 ∷ [])
+    ≡ number_of (take 8 (drop at l))
+unfolding number_of
+eight_there at l h =
+    let front : drop (at + 0) l ≡ drop at l = ap (λ (i : ℕ). drop i l) (add-zero at) in
+    rw (← front, take_elements l at 0 8 (omega arith), add-zero at) (omega arith)
 
 -- an array that is made of what a function gives at each number
 module _ {F : Type 0} (g : Mut F (ℕ × Unit {0}) ℕ) (f : F) (h : ℕ → ℕ) (gives : (i b : ℕ) (q : F) → Called g f (i, tt) b q → (b ≡ h i) × (q ≡ f)) where

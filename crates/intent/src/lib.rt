@@ -32,7 +32,16 @@ fn entry_at(log: &[u8], at: usize) -> u64
     requires { at + 8 ≤ length log.now }
     ensures { result ≡ number_of (take 8 (drop at log.now)) }
 {
-    tag::number_of(&log[at..at + BYTES])
+    u64::from_be_bytes([
+        log[at],
+        log[at + 1],
+        log[at + 2],
+        log[at + 3],
+        log[at + 4],
+        log[at + 5],
+        log[at + 6],
+        log[at + 7],
+    ])
 }
 
 // All entries of a record.
@@ -46,7 +55,13 @@ fn entries_of(log: &[u8; LENGTH]) -> [u64; 64]
 fn many(entries: &[u64], number: u64) -> usize
     ensures { result ≡ many number entries.now }
 {
-    entries.iter().filter(|entry| **entry == number).count()
+    let mut count = 0;
+    for i in 0..entries.len() {
+        if entries[i] == number {
+            count += 1;
+        }
+    }
+    count
 }
 
 // The place of the first entry that is this number, or the number of entries.

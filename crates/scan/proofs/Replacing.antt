@@ -82,3 +82,9 @@ chosen-set l m v n long = fill_by_all (λ i. cond (eqb i m) v (get_or l i v)) (s
         go : Dec (i ≡ m) → cond (eqb i m) v (get_or l i v) ≡ get_or (set l m v) i v
         go (yes q) = rw (eq-eqb i m q) (sym (get_or-set_same l i v v h) ∙ ap (λ (k : ℕ). get_or (set l k v) i v) q)
         go (no q) = rw (ne_eqb i m q) (sym (get_or-set_other l m i v v q))
+
+-- a number put where it stands already changes nothing
+pub set_as_it_is : (l : List ℕ) (i v : ℕ) → i < length l → get_or l i 0 ≡ v → l ≡ set l i v
+set_as_it_is [] i v h e = absurd (not-suc-le-zero h)
+set_as_it_is (x ∷ l) zero v h e = ap (λ (y : ℕ). y ∷ l) e
+set_as_it_is (x ∷ l) (suc i) v h e = ap (λ (m : List ℕ). x ∷ m) (set_as_it_is l i v (le_of_suc-le-suc h) e)

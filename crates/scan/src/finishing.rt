@@ -20,27 +20,26 @@ use verdict::Verdict;
 
 impl Scan {
     // Whether all members stand at the end of a block.
-    fn all_whole(&self) -> bool
-        requires { self.now.array.members ≤ 16 }
-        ensures { result ≡ all_whole (format_at self.now.array) self.now.array.members self.now.at }
+    fn all_whole(self) -> bool
+        requires { self.array.members ≤ 16 }
+        ensures { result ≡ all_whole (format_at self.array) self.array.members self.at }
     {
         let block = format::block_length(self.array.method);
-        self.at[..self.array.members]
+        let at = self.at;
+        at[..self.array.members]
             .iter()
             .all(|position| usize::from(*position) == block)
     }
 
-    // Whether a scan can end: the state is fit, the work buffer as long as a block's data, and no member lacks bytes.
-    fn check_finish(&self, length: usize) -> Result<(), Refusal>
-        ensures { told result ≡ finish_refusal self.now length }
+    // Whether a scan can end: the state is fit, the work buffer as long as a block's data, and no member lacks bytes. The arrays are taken out of the
+    // state, as in `check_piece`.
+    fn check_finish(self, length: usize) -> Result<(), Refusal>
+        ensures { told result ≡ finish_refusal self length }
     {
-        let fits = fit(
-            self.array,
-            self.stripe,
-            &self.at,
-            &self.register,
-            &self.waiting,
-        );
+        let at = self.at;
+        let register = self.register;
+        let waiting = self.waiting;
+        let fits = fit(self.array, self.stripe, &at, &register, &waiting);
         demand(fits, Refusal::State)?;
         demand(
             length == format::data_length(self.array.method),
@@ -105,7 +104,9 @@ pub fn finish(state: Scan, work: &[u8]) -> Result<Verdict, Refusal>
 {
     state.check_finish(work.len())?;
     let members = state.array.members;
-    let standing = state.standings();
-    let left = state.guards_left();
+    // A copy, so that a state which is refused need not lie in memory whole.
+    let held = state;
+    let standing = held.standings();
+    let left = held.guards_left();
     Ok(verdict::judge(&standing[0..members], work, left))
 }

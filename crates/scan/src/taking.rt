@@ -102,7 +102,7 @@ fn store(method: u8, tag: &mut [u8], member: usize, position: usize, bytes: &[u8
 }
 
 // Sixteen numbers with another at one place. Each is chosen anew: one stored alone among the others would have to be waited for when they are read
-// together.
+// together. The place is cut to sixteen bits, in which the compiler then compares it.
 fn replaced<T: Copy>(held: [T; 16], place: u16, value: T) -> [T; 16]
     ensures { result ≡ set held place value }
 {
@@ -118,6 +118,19 @@ fn replaced<T: Copy>(held: [T; 16], place: u16, value: T) -> [T; 16]
             }
         },
     )
+}
+
+// Sixteen bytes with another at one place. Most often it stands there already, and then they are handed back as they came.
+fn replaced_byte(held: [u8; 16], place: u16, value: u8) -> [u8; 16]
+    requires { place < 16 }
+    ensures { result ≡ set held place value }
+{
+    if held[usize::from(place)] == value {
+        return held;
+    }
+    let mut next = held;
+    next[usize::from(place)] = value;
+    next
 }
 
 // Passes a piece on, from a position of its block on and with the guard's register there. It is cut once: bytes of data, as far as the block's data
@@ -215,7 +228,7 @@ fn take_in(state: Scan, member: usize, bytes: &[u8], work: &mut [u8]) -> Scan
     let place = (member % 65536) as u16;
     let at = replaced(positions, place, (position + bytes.len()) as u16);
     let value = replaced(values, place, value_in(method, after));
-    let waiting = replaced(bytes_waiting, place, waiting_in(method, after));
+    let waiting = replaced_byte(bytes_waiting, place, waiting_in(method, after));
     Scan {
         at,
         register: value,

@@ -71,16 +71,19 @@ fn all_zero(bytes: &[u8]) -> bool
 
 // The first place that is not zero, or the length where there is none.
 // Stays: the length, not an Option, as its promise names a number for every list of bytes (`lowest`).
+// Stays: a loop over the places: with `position` the edit `first_place_passed_over` would be refused for its form alone.
 pub fn first_nonzero(bytes: &[u8]) -> usize
     ensures { result ≡ lowest (nonzero bytes.now) }
 {
     if all_zero(bytes) {
         return bytes.len();
     }
-    bytes
-        .iter()
-        .position(|byte| *byte != 0)
-        .unwrap_or(bytes.len())
+    for place in 0..bytes.len() {
+        if bytes[place] != 0 {
+            return place;
+        }
+    }
+    bytes.len()
 }
 
 // The lowest member that stands within a range, if any does.

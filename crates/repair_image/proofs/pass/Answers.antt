@@ -17,10 +17,10 @@ pub shared_ref_as_front-put_out-in-loop-rest : goal.shared_ref_as_front-put_out-
 shared_ref_as_front-put_out-in-loop-rest g c = let few = fed-lists _ _ _ c.feed-fed.ensures in omega arith
 
 pub slice_bounds-rest-count : goal.slice_bounds-rest-count
-slice_bounds-rest-count g c = fed-uses _ _ _ c.feed-fed.ensures
+slice_bounds-rest-count g c = let few = fed-uses _ _ _ c.feed-fed.ensures in omega arith
 
 pub slice_bounds-rest-start : goal.slice_bounds-rest-start
-slice_bounds-rest-start g c = let few = fed-uses _ _ _ c.feed-fed.ensures in search rules
+slice_bounds-rest-start g c = let few = fed-uses _ _ _ c.feed-fed.ensures in omega arith
 
 pub loop-rest-preserved : goal.loop-rest-preserved
 loop-rest-preserved g c =

@@ -17,7 +17,7 @@ pub slice_bounds-write_all-end-in-loop-rest : goal.slice_bounds-write_all-end-in
 slice_bounds-write_all-end-in-loop-rest g c = let few = filled_writes _ _ _ c.fill-fed.ensures in simp length-take (omega arith)
 
 pub slice_bounds-rest-count : goal.slice_bounds-rest-count
-slice_bounds-rest-count g c = filled_uses _ _ _ c.fill-fed.ensures
+slice_bounds-rest-count g c = let few = filled_uses _ _ _ c.fill-fed.ensures in omega arith
 
 pub slice_bounds-rest-start : goal.slice_bounds-rest-start
 slice_bounds-rest-start g c = let few = filled_uses _ _ _ c.fill-fed.ensures in omega arith

@@ -13,7 +13,7 @@ use Rattle.scan.proofs.Scan.all_whole.Goals as goal
 
 pub returns : goal.returns
 returns c =
-    let s = c.args.self.now in
+    let s = c.args.self in
     let front = take s.array.members s.at in
     let test : ℕ → Bool = λ p. eqb p (format_at s.array).block_length in
     all_from_yields_List test _ _ c.all.result c.all.ensures.ran (YieldsList-from_slice front cc) (λ x b q k. rw (← c.block_length-block.ensures) (search (rules, tests)))

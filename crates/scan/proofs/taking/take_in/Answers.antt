@@ -34,6 +34,13 @@ overflow_cast-position c =
     let fine = accepted _ _ _ _ c.requires in
     omega (arith, fine.room, c.from-position.ensures, F.block_parts, F.data_most, F.tag_quarters, F.quarter-most)
 
+pub replaced_byte-waiting-requires : goal.replaced_byte-waiting-requires
+replaced_byte-waiting-requires c =
+    let m = c.args.member in
+    let fine = accepted _ _ _ _ c.requires in
+    let place : m % 65536 ≡ m = mod-eq_of_lt (omega (arith, fine.here, fine.state.few)) in
+    omega (arith, place, fine.here, fine.state.few)
+
 pub returns : goal.returns
 unfolding buffer
 returns c =
@@ -43,9 +50,9 @@ returns c =
     let place : m % 65536 ≡ m = mod-eq_of_lt (omega (arith, fine.here, fine.state.few)) in
     let position = c.from-position.ensures in
     record {
-      value = advanced_by s m c.args.bytes.now c.replaced-at.result c.replaced-value.result c.replaced-waiting.result
+      value = advanced_by s m c.args.bytes.now c.replaced-at.result c.replaced-value.result c.replaced_byte-waiting.result
           c.register_of-register.result c.pass-after.result c.value_in.result c.waiting_in.result _
           c.register_of-register.ensures.value (rw position at c.pass-after.ensures.value) c.value_in.ensures c.waiting_in.ensures
-          (rw (place, position) at c.replaced-at.ensures) (rw place at c.replaced-value.ensures) (rw place at c.replaced-waiting.ensures) (rw position at c.pass-after.ensures.tag_after);
+          (rw (place, position) at c.replaced-at.ensures) (rw place at c.replaced-value.ensures) (rw place at c.replaced_byte-waiting.ensures) (rw position at c.pass-after.ensures.tag_after);
       work_after = rw position at c.pass-after.ensures.work_after;
     }
