@@ -11,12 +11,12 @@ ghost use Rattle.castagnoli_rows.specs.Folds.{Ready};
 ghost use Rattle.castagnoli_fold.specs.Heads.{head_of};
 
 pub use calls::{advance, crc32c, guards};
-use castagnoli_rows::{Places, tail, take};
+use castagnoli_rows::{PlacesBelow, tail_below, take_below};
 
 // The five places of the fold to 448 bytes.
 struct Wide;
 
-impl Places<231> for Wide {
+impl PlacesBelow<231> for Wide {
     ghost places = { 4 ∷ 20 ∷ 161 ∷ 206 ∷ 230 ∷ [] };
 
     fn mixed(byte: u8, w: &[u8; 231]) -> u8 {
@@ -32,6 +32,6 @@ fn to_448(register: u32, b: &[u8; 4096], w: &mut [u8]) -> [u8; 448]
     ensures result_value { advance 0 result ≡ advance register b.now }
     ensures ready { Ready 448 3648 (head_of register) w.new }
 {
-    take::<Wide, 231, 64, 448, 3648>(b, w);
-    tail::<Wide, 231, 448, 3648>(b, w)
+    take_below::<Wide, 231, 64, 448, 3648>(b, w);
+    tail_below::<Wide, 231, 448, 3648>(b, w)
 }

@@ -2,13 +2,18 @@
 -- definitions.
 -- A fold takes the first m of m + n bytes away. As they are when they are taken they stand in a buffer, n places on; and each byte of the m + n is
 -- met by those that stand at some places of the buffer, counted from its own. Before them stands a head, and after them zeros. Assumes nothing.
-use Rattle.std.specs.Prelude.{◌≡◌, Bool, true, ◌&&◌, ltb, List, [], ◌∷◌, ℕ, ◌+◌, ◌-◌, ◌%◌, ◌≤◌, ◌<◌, length, get_or}
+use Rattle.std.specs.Prelude.{◌≡◌, Bool, true, ◌&&◌, leb, ltb, List, [], ◌∷◌, ℕ, ◌+◌, ◌-◌, ◌%◌, ◌≤◌, ◌<◌, length, get_or}
 use Rattle.std.specs.Int.Bits.{bit_xor}
 
 -- x, and what w holds at each of the places from k on, added
 abbrev pub mix : List ℕ → ℕ → List ℕ → ℕ → ℕ
 mix [] x w k = x
 mix (e ∷ es) x w k = mix es (bit_xor x (get_or w (k + e) 0)) w k
+
+-- no place is past z
+abbrev pub no_further : ℕ → List ℕ → Bool
+no_further z [] = true
+no_further z (e ∷ es) = leb e z && no_further z es
 
 -- each place is below r
 abbrev pub all_below : ℕ → List ℕ → Bool

@@ -3,19 +3,23 @@
 // further on at nine places each; 128 are left.
 #![tactic(auto)]
 
+mod below;
 mod places;
 mod rows;
+#[cfg(test)]
+mod tests;
 
 ghost use Rattle.std.specs.Prelude.{◌≡◌, [], ◌∷◌, refl};
 ghost use Rattle.castagnoli.specs.Castagnoli.{advance};
 
+pub use below::{PlacesBelow, tail_below, take_below};
 pub use places::{Places, tail, take};
 pub use rows::of_448;
 
 // The nine places of the fold to 128 bytes.
 struct Near;
 
-impl Places<57> for Near {
+impl PlacesBelow<57> for Near {
     ghost places = { 13 ∷ 22 ∷ 23 ∷ 33 ∷ 37 ∷ 42 ∷ 48 ∷ 52 ∷ 56 ∷ [] };
 
     fn mixed(byte: u8, w: &[u8; 57]) -> u8 {
@@ -30,6 +34,6 @@ fn to_128(b: [u8; 448]) -> [u8; 128]
     ensures { advance 0 result ≡ advance 0 b }
 {
     let mut w = [0u8; 576];
-    take::<Near, 57, 32, 128, 320>(&b, &mut w);
-    tail::<Near, 57, 128, 320>(&b, &w)
+    take_below::<Near, 57, 32, 128, 320>(&b, &mut w);
+    tail_below::<Near, 57, 128, 320>(&b, &w)
 }

@@ -8,8 +8,8 @@ use Rattle.castagnoli_fold.proofs.to_448.Goals as goal
 pub returns : goal.returns
 returns c =
     let a = c.args in
-    let taken = c.take.ensures.taken (search rules) (head_of a.register) c.requires in
+    let taken = c.take_below.ensures.taken (search rules) (head_of a.register) c.requires in
     record {
-      result_value = folded_wide a.register c.take.new.w taken.ready a.b.now c.tail.result (search rules) c.told-b (search rules) taken (c.tail.ensures.left (search rules));
+      result_value = folded_wide a.register c.take_below.new.w taken.ready a.b.now c.tail_below.result (search rules) c.told-b (search rules) taken (c.tail_below.ensures.left (search rules));
       ready = taken.ready;
     }

@@ -6,4 +6,4 @@ use borrow.Author.Rules.{rules}
 use Rattle.castagnoli_rows.proofs.to_128.Goals as goal
 
 pub returns : goal.returns
-returns c = folded_near c.args.b c.take.new.w c.tail.result (search rules) (search rules) (c.take.ensures.taken (search rules) [] ready-near) (c.tail.ensures.left (search rules))
+returns c = folded_near c.args.b c.take_below.new.w c.tail_below.result (search rules) (search rules) (c.take_below.ensures.taken (search rules) [] ready-near) (c.tail_below.ensures.left (search rules))
