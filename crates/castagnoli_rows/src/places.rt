@@ -1,6 +1,6 @@
 // A fold of any size: M bytes are taken away at the front of a run, C at a time, and each is added at some places further on; N are left.
 // Only a proof knows how far these places reach, so room is asked for. The folds that run here go by those of below.rt, which ask nothing.
-// Stays: `take` and `tail` are called like this, with no R; and with no R there is no window to cut, and nothing to test.
+// Stays: `take` and `tail` are called like this, with no R; and with no R there is no window to cut, and no test of the reach.
 ghost use Rattle.std.specs.Prelude.{◌≡◌, true, List, ℕ, ◌+◌, ◌%◌, ◌≤◌, ◌<◌, length, get_or};
 ghost use Rattle.castagnoli_rows.specs.Folds.{mix, no_further, Ready, Chunk, Taken, Tail};
 

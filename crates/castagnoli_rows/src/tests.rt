@@ -1,4 +1,4 @@
-// `take` and `tail` as another crate calls them. The numbers were made outside: the first fold by hand, the register of the second bit by bit.
+// `take` and `tail` by their public names. The numbers were made outside: the first fold by hand, the register of the second bit by bit.
 ghost use Rattle.std.specs.Prelude.{[], ◌∷◌, refl};
 
 use super::{Places, tail, take};
