@@ -1,5 +1,5 @@
 // A fold of any size: M bytes are taken away at the front of a run, C at a time, and each is added at some places further on; N are left.
-// How far the places reach is a constant, so the sizes are tested, and nothing is asked.
+// Each place is below a constant, so the sizes are tested, and nothing is asked.
 ghost use Rattle.std.specs.Prelude.{◌≡◌, ◌↔◌, true, List, ℕ, ◌+◌, ◌-◌, ◌≤◌, ◌<◌, IsTrue, length, get_or, replicate};
 ghost use Rattle.castagnoli_rows.specs.Folds.{mix, all_below, Ready, Fit, Room, Chunk, Taken, Tail};
 
